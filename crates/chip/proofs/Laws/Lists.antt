@@ -1,0 +1,50 @@
+-- Lists by their elements.
+use Prim.Native.Nat.{ℕ, zero, suc, _+_, _≤_, _<_}
+use native.Mathlib.Nat.{not-suc-le-zero, le-of-suc-le-suc, ne-of-lt}
+use mathlib.Core.Path.{_≡_, refl, ap, sym, _∙_}
+use mathlib.Core.List.{List, [], _∷_, _++_}
+use lib.ListN.{length, getD, take, set}
+use lib.Seq.{take-all, set-at, ext-getD, getD-set-same, getD-set-other}
+use borrow.Author.Count.{below-more}
+use native.Mathlib.Omega.{arith}
+
+-- f 0, f 1, .. f (n - 1)
+abbrev pub tabulate : ℕ → (ℕ → ℕ) → List ℕ
+tabulate zero f = []
+tabulate (suc n) f = f 0 ∷ tabulate n (λ i. f (suc i))
+
+pub take-tabulate : (n : ℕ) (l : List ℕ) → n ≤ length l → take n l ≡ tabulate n (λ i. getD l i 0)
+take-tabulate zero l h = refl
+take-tabulate (suc n) [] h = absurd (not-suc-le-zero h)
+take-tabulate (suc n) (x ∷ xs) h = ap {B = List ℕ} (λ t. x ∷ t) (take-tabulate n xs (le-of-suc-le-suc h))
+
+-- a list of n elements, element by element
+pub listed : (n : ℕ) (l : List ℕ) → length l ≡ n → l ≡ tabulate n (λ i. getD l i 0)
+listed n l e = sym (take-all n l (omega arith)) ∙ take-tabulate n l (omega arith)
+
+-- the one element after a list of n replaced
+pub set-last : (p q : List ℕ) (n x : ℕ) → length p ≡ n → length q ≡ 1 → set (p ++ q) n x ≡ p ++ (x ∷ [])
+set-last p [] n x hp hq = absurd (omega arith)
+set-last p (y ∷ []) n x hp hq = set-at p y [] x n hp
+set-last p (y ∷ z ∷ q) n x hp hq = absurd (omega arith)
+
+-- A list that a loop fills from the front: its first i elements are f's.
+pub record Filled (s : List ℕ) (f : ℕ → ℕ) (i : ℕ) : Type 0 where
+  pub front : (k : ℕ) → k < i → getD s k 0 ≡ f k
+
+pub filled-none : {s : List ℕ} {f : ℕ → ℕ} → Filled s f 0
+filled-none = record { front = λ k h. absurd (not-suc-le-zero h) }
+
+-- one store more
+pub filled-more : {s : List ℕ} {f : ℕ → ℕ} {i : ℕ} (x : ℕ) → i < length s → x ≡ f i → Filled s f i → Filled (set s i x) f (i + 1)
+filled-more {s} {f} {i} x h e before =
+    record {
+      front =
+          below-more (λ k. getD (set s i x) k 0 ≡ f k) i
+          (λ k below. getD-set-other s i k x 0 (ne-of-lt below) ∙ before .front k below)
+          (getD-set-same s i x 0 h ∙ e);
+    }
+
+-- two lists that are filled alike, whole
+pub filled-all : {s t : List ℕ} {f : ℕ → ℕ} → length s ≡ length t → Filled s f (length t) → Filled t f (length t) → s ≡ t
+filled-all {s} {t} same fs ft = ext-getD 0 s t same (λ i h. fs .front i (rw same at h) ∙ sym (ft .front i (rw same at h)))

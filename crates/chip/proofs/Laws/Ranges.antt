@@ -1,0 +1,40 @@
+-- A test of every number below a bound.
+use Prim.Native.Nat.{ℕ, zero, suc, _<_}
+use native.Mathlib.Nat.{not-suc-le-zero, le-of-suc-le-suc, eq-or-lt-of-le}
+use mathlib.Core.Path.{_≡_, refl, ap, ap₂, sym, subst, _∙_}
+use mathlib.Core.Bool.{Bool, true, false, _&&_}
+use mathlib.Core.Logic.{⊎-elim}
+use Rattle.chip.specs.Ranges.{allBelow}
+
+pub and-false : (a : Bool) → (a && false) ≡ false
+and-false true = refl
+and-false false = refl
+
+pub and-left : (a b : Bool) → (a && b) ≡ true → a ≡ true
+and-left true b e = refl
+and-left false b e = e
+
+pub and-right : (a b : Bool) → (a && b) ≡ true → b ≡ true
+and-right true b e = e
+and-right false true e = refl
+and-right false false e = e
+
+pub and-both : {a b : Bool} → a ≡ true → b ≡ true → (a && b) ≡ true
+and-both p q = ap₂ _&&_ p q
+
+-- one number at which the test fails is enough
+pub one-fails : (n : ℕ) (p : ℕ → Bool) (k : ℕ) → k < n → p k ≡ false → allBelow n p ≡ false
+one-fails zero p k h e = absurd (not-suc-le-zero h)
+one-fails (suc n) p k h e =
+    ⊎-elim
+    (λ same. ap (λ (b : Bool). allBelow n p && b) (subst (λ (m : ℕ). p m ≡ false) same e) ∙ and-false (allBelow n p))
+    (λ below. ap (λ (b : Bool). b && p n) (one-fails n p k below e))
+    (eq-or-lt-of-le (le-of-suc-le-suc h))
+
+pub each-holds : (n : ℕ) (p : ℕ → Bool) → allBelow n p ≡ true → (k : ℕ) → k < n → p k ≡ true
+each-holds zero p e k h = absurd (not-suc-le-zero h)
+each-holds (suc n) p e k h =
+    ⊎-elim
+    (λ same. subst (λ (m : ℕ). p m ≡ true) (sym same) (and-right (allBelow n p) (p n) e))
+    (λ below. each-holds n p (and-left (allBelow n p) (p n) e) k below)
+    (eq-or-lt-of-le (le-of-suc-le-suc h))

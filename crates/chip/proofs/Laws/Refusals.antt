@@ -1,0 +1,16 @@
+-- Refusals and their numbers.
+use Prim.Native.Nat.{ℕ, _≤_}
+use lib.Dec.{lit≤}
+use Rattle.chip.specs.Refusals.{numberOf}
+use Rattle.chip.specs.declared.refusal.Refusal.{Refusal}
+use Rattle.chip.specs.declared.refusal.Refusal.the-variants.{Accepted, VramLength, SliceLength, IllFormed, LineNumber, SnapshotLength, Trailer, Checksum}
+
+pub number-small : (r : Refusal) → numberOf r ≤ 7
+number-small Accepted = lit≤ tt
+number-small VramLength = lit≤ tt
+number-small SliceLength = lit≤ tt
+number-small IllFormed = lit≤ tt
+number-small LineNumber = lit≤ tt
+number-small SnapshotLength = lit≤ tt
+number-small Trailer = lit≤ tt
+number-small Checksum = lit≤ tt

@@ -1,0 +1,52 @@
+-- The port calls: the tests that each makes, and its answer, accepted or refused. What they leave in lent slices stands beside.
+use Prim.Native.Nat.{ℕ}
+use mir.Val.{boolByte}
+use mathlib.Core.List.{List, [], _∷_}
+use Rattle.chip.specs.State.{powerUpState}
+use Rattle.chip.specs.Map.{mapSize, marked}
+use Rattle.chip.specs.Ports.{control, dataWritten, stored, dataRead, statusRead, displayEnded, interruptOn, wasReset, clearedVram}
+use Rattle.chip.specs.Refusals.{vramTest, sliceTest, stateTest, refusalOf, ifAccepted, answered}
+use Rattle.chip.specs.declared.state.Chip.{Chip}
+use Rattle.chip.specs.declared.refusal.Answer.{Answer}
+use Rattle.chip.specs.declared.refusal.Refusal.{Refusal}
+
+-- Power-up does not test the state, which it replaces.
+abbrev pub powerUpRefusal : List ℕ → Refusal
+powerUpRefusal vram = refusalOf (vramTest vram ∷ [])
+
+abbrev pub powerUp : Chip → List ℕ → Answer
+powerUp c vram = answered (powerUpRefusal vram) c powerUpState 0
+
+abbrev pub powerUpVram : List ℕ → List ℕ
+powerUpVram vram = ifAccepted (powerUpRefusal vram) clearedVram vram
+
+abbrev pub controlWrite : Chip → List ℕ → ℕ → Answer
+controlWrite c vram b = answered (refusalOf (vramTest vram ∷ stateTest c ∷ [])) c (control b vram c) 0
+
+abbrev pub dataWriteRefusal : Chip → List ℕ → List ℕ → Refusal
+dataWriteRefusal c vram map = refusalOf (vramTest vram ∷ sliceTest mapSize map ∷ stateTest c ∷ [])
+
+abbrev pub dataWrite : Chip → List ℕ → List ℕ → ℕ → Answer
+dataWrite c vram map b = answered (dataWriteRefusal c vram map) c (dataWritten b c) 0
+
+abbrev pub dataWriteVram : Chip → List ℕ → List ℕ → ℕ → List ℕ
+dataWriteVram c vram map b = ifAccepted (dataWriteRefusal c vram map) (stored b c vram) vram
+
+abbrev pub dataWriteMap : Chip → List ℕ → List ℕ → List ℕ
+dataWriteMap c vram map = ifAccepted (dataWriteRefusal c vram map) (marked map (c .address)) map
+
+abbrev pub readData : Chip → List ℕ → Answer
+readData c vram = answered (refusalOf (vramTest vram ∷ stateTest c ∷ [])) c (dataRead vram c) (c .buffer)
+
+abbrev pub readStatus : Chip → Answer
+readStatus c = answered (refusalOf (stateTest c ∷ [])) c (statusRead c) (c .status)
+
+abbrev pub endOfDisplay : Chip → Answer
+endOfDisplay c = answered (refusalOf (stateTest c ∷ [])) c (displayEnded c) 0
+
+-- The interrupt line is answered as 1 or 0.
+abbrev pub interruptLine : Chip → Answer
+interruptLine c = answered (refusalOf (stateTest c ∷ [])) c c (boolByte (interruptOn c))
+
+abbrev pub reset : Chip → Answer
+reset c = answered (refusalOf (stateTest c ∷ [])) c (wasReset c) 0

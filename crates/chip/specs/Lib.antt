@@ -1,0 +1,10 @@
+-- The definitions that the contracts cite, in the order of the sections "State and ports" and "Refusal numbers".
+pub mod Bits
+pub mod Ranges
+pub mod State
+pub mod Ports
+pub mod Map
+pub mod Refusals
+pub mod Calls
+pub mod Layout
+pub mod Tables

@@ -1,0 +1,69 @@
+-- The port operations on a well-formed state and VRAM of its full size. Each hands the next state back.
+use Prim.Native.Nat.{ℕ, _+_, _*_, _%_}
+use mathlib.Core.Bool.{Bool, true, cond, not, _&&_, _||_}
+use mathlib.Core.List.{List}
+use lib.Dec.{eqb, leb, ltb}
+use lib.ListN.{getD, set, replicate}
+use Rattle.chip.specs.Bits.{bit, setBit}
+use Rattle.chip.specs.State.{vramSize, kept, register, withRegisters, withAddress, withBuffer, withWaiting, withStatus, withRedraw}
+use Rattle.chip.specs.declared.state.Chip.{Chip}
+use Rattle.chip.specs.declared.state.Waiting.{Waiting}
+use Rattle.chip.specs.declared.state.Waiting.the-variants.{Nothing, First}
+
+-- The address one step on: from 16,383 it goes to 0.
+abbrev pub stepped : ℕ → ℕ
+stepped a = (a + 1) % vramSize
+
+-- The buffer takes VRAM at the address, which steps.
+abbrev pub prefetched : List ℕ → Chip → Chip
+prefetched vram c = withAddress (stepped (c .address)) (withBuffer (getD vram (c .address) 0) c)
+
+-- Register n takes what it keeps of byte a. Where that alters the register, the redraw mark is set.
+abbrev pub registerWritten : ℕ → ℕ → Chip → Chip
+registerWritten n a c =
+    withRedraw (c .redraw || not (eqb (kept n a) (register n (c .registers))))
+    (withRegisters (set (c .registers) n (kept n a)) c)
+
+-- What the second byte b of a pair does, once the address is set: hex 80 and more writes register b mod 8,
+-- below hex 40 sets up a read, and nothing more otherwise.
+abbrev pub pairDone : ℕ → ℕ → List ℕ → Chip → Chip
+pairDone a b vram c = cond (leb 128 b) (registerWritten (b % 8) a c) (cond (ltb b 64) (prefetched vram c) c)
+
+-- Control write. With none waiting, byte b waits. With byte a waiting, b completes the pair.
+abbrev pub controlBy : Waiting → ℕ → List ℕ → Chip → Chip
+controlBy Nothing b vram c = withWaiting (First b) c
+controlBy (First a) b vram c = pairDone a b vram (withAddress (b % 64 * 256 + a) (withWaiting Nothing c))
+
+abbrev pub control : ℕ → List ℕ → Chip → Chip
+control b vram c = controlBy (c .waiting) b vram c
+
+-- Data write: VRAM at the address and the buffer take the byte, the address steps, nothing waits. (Its map bit: see Map.)
+abbrev pub dataWritten : ℕ → Chip → Chip
+dataWritten b c = withWaiting Nothing (withAddress (stepped (c .address)) (withBuffer b c))
+
+abbrev pub stored : ℕ → Chip → List ℕ → List ℕ
+stored b c vram = set vram (c .address) b
+
+-- Data read: answers the buffer, which is then filled again; nothing waits.
+abbrev pub dataRead : List ℕ → Chip → Chip
+dataRead vram c = withWaiting Nothing (prefetched vram c)
+
+-- Status read: answers status, then F (hex 80), 5S (40) and C (20) are clear and the low five bits stay; nothing waits.
+abbrev pub statusRead : Chip → Chip
+statusRead c = withWaiting Nothing (withStatus (c .status % 32) c)
+
+-- End of active display sets F.
+abbrev pub displayEnded : Chip → Chip
+displayEnded c = withStatus (setBit 7 (c .status)) c
+
+-- The interrupt line is on exactly when F and register 1's hex 20 are on.
+abbrev pub interruptOn : Chip → Bool
+interruptOn c = bit 7 (c .status) && bit 5 (register 1 (c .registers))
+
+-- Reset clears registers 0 and 1, status and the waiting byte, and sets the redraw mark. The rest stays.
+abbrev pub wasReset : Chip → Chip
+wasReset c = withRedraw true (withWaiting Nothing (withStatus 0 (withRegisters (set (set (c .registers) 0 0) 1 0) c)))
+
+-- Power-up fills VRAM with zeros.
+abbrev pub clearedVram : List ℕ
+clearedVram = replicate vramSize 0

@@ -1,0 +1,83 @@
+-- The chip's state: eight registers, a 14-bit address, the read buffer, the waiting first byte, status and the redraw mark.
+use Prim.Native.Nat.{ℕ, _<_}
+use mathlib.Core.Path.{_≡_}
+use mathlib.Core.Bool.{Bool, true, cond, _&&_}
+use mathlib.Core.List.{List, [], _∷_}
+use lib.Bits.{bitAnd}
+use lib.Dec.{eqb, leb}
+use lib.ListN.{length, getD, replicate}
+use Rattle.chip.specs.Ranges.{allBelow}
+use Rattle.chip.specs.declared.state.Chip.{Chip}
+use Rattle.chip.specs.declared.state.Waiting.{Waiting}
+use Rattle.chip.specs.declared.state.Waiting.the-variants.{Nothing, First}
+
+-- How many bytes of VRAM there are.
+abbrev pub vramSize : ℕ
+vramSize = 16384
+
+-- The waiting first byte as the state block's two bytes: none is 0 and 0, the byte a is 1 and a.
+abbrev pub flagOf : Waiting → ℕ
+flagOf Nothing = 0
+flagOf (First a) = 1
+
+abbrev pub byteOf : Waiting → ℕ
+byteOf Nothing = 0
+byteOf (First a) = a
+
+abbrev pub waitingOf : ℕ → ℕ → Waiting
+waitingOf flag a = cond (eqb flag 1) (First a) Nothing
+
+-- At power-up all is zero, nothing waits, and the redraw mark is set.
+abbrev pub powerUpState : Chip
+powerUpState = record { registers = replicate 8 0; address = 0; buffer = 0; waiting = Nothing; status = 0; redraw = true }
+
+-- The bits that registers 0 to 7 keep.
+abbrev pub masks : List ℕ
+masks = 0x03 ∷ 0xFB ∷ 0x0F ∷ 0xFF ∷ 0x07 ∷ 0x7F ∷ 0x07 ∷ 0xFF ∷ []
+
+-- What register n keeps of a byte.
+abbrev pub kept : ℕ → ℕ → ℕ
+kept n x = bitAnd x (getD masks n 0)
+
+-- Register n of a state's registers.
+abbrev pub register : ℕ → List ℕ → ℕ
+register n registers = getD registers n 0
+
+-- Whether register n holds only bits that it keeps, and whether all eight do.
+abbrev pub obeys : List ℕ → ℕ → Bool
+obeys registers n = eqb (kept n (register n registers)) (register n registers)
+
+unfoldable pub masked : List ℕ → Bool
+masked registers = allBelow 8 (obeys registers)
+
+-- A well-formed state obeys the masks and has an address of at most 16,383.
+unfoldable pub wellFormed : Chip → Bool
+wellFormed c = masked (c .registers) && leb (c .address) 16383
+
+-- The state with one thing changed.
+abbrev pub withRegisters : List ℕ → Chip → Chip
+withRegisters l c = record { registers = l; address = c .address; buffer = c .buffer; waiting = c .waiting; status = c .status; redraw = c .redraw }
+
+abbrev pub withAddress : ℕ → Chip → Chip
+withAddress a c = record { registers = c .registers; address = a; buffer = c .buffer; waiting = c .waiting; status = c .status; redraw = c .redraw }
+
+abbrev pub withBuffer : ℕ → Chip → Chip
+withBuffer b c = record { registers = c .registers; address = c .address; buffer = b; waiting = c .waiting; status = c .status; redraw = c .redraw }
+
+abbrev pub withWaiting : Waiting → Chip → Chip
+withWaiting w c = record { registers = c .registers; address = c .address; buffer = c .buffer; waiting = w; status = c .status; redraw = c .redraw }
+
+abbrev pub withStatus : ℕ → Chip → Chip
+withStatus s c = record { registers = c .registers; address = c .address; buffer = c .buffer; waiting = c .waiting; status = s; redraw = c .redraw }
+
+abbrev pub withRedraw : Bool → Chip → Chip
+withRedraw m c = record { registers = c .registers; address = c .address; buffer = c .buffer; waiting = c .waiting; status = c .status; redraw = m }
+
+-- That the values fit their types, as they do in every state that code holds: eight registers, and each number within its width.
+pub record Fits (c : Chip) : Type 0 where
+  pub eight : length (c .registers) ≡ 8
+  pub registers : (n : ℕ) → register n (c .registers) < 256
+  pub address : c .address < 65536
+  pub buffer : c .buffer < 256
+  pub waiting : byteOf (c .waiting) < 256
+  pub status : c .status < 256
