@@ -4,3 +4,5 @@ pub mod Ranges
 pub mod Bits
 pub mod Refusals
 pub mod State
+pub mod Tables
+pub mod Layout

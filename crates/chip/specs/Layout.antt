@@ -45,6 +45,9 @@ chipOf b = decoded b (eqb (getD b 14 0) 1)
 abbrev pub holdsBlock : List ℕ → Bool
 holdsBlock b = leb (getD b 14 0) 1 && holdsState b
 
--- The block holds a state.
+-- The block has 15 bytes, and they hold a state.
 abbrev pub blockTest : List ℕ → Test
 blockTest b = record { refusal = IllFormed; passes = holdsBlock b }
+
+abbrev pub blockTests : List ℕ → List Test
+blockTests b = sliceTest blockSize b ∷ blockTest b ∷ []

@@ -1,5 +1,5 @@
 -- Refusal numbers, the order of tests, and what a refused call leaves.
-use Prim.Native.Nat.{ℕ}
+use Prim.Native.Nat.{ℕ, _+_, _*_}
 use mathlib.Core.Bool.{Bool, true, false, cond, not, _&&_, _||_}
 use mathlib.Core.List.{List, [], _∷_}
 use lib.Dec.{eqb}
@@ -63,6 +63,10 @@ refusalOf ts = firstOf order ts
 module _ {A : Type 0} where
   abbrev pub ifAccepted : Refusal → A → A → A
   ifAccepted r new old = cond (isAccepted r) new old
+
+-- One number for a caller in C: 256 times the refusal number, plus the byte read.
+abbrev pub resultOf : Answer → ℕ
+resultOf a = numberOf (a .refusal) * 256 + a .value
 
 -- A call's answer: the refusal, the next state or the one given, and the number read or 0.
 abbrev pub answered : Refusal → Chip → Chip → ℕ → Answer

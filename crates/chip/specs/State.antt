@@ -73,10 +73,14 @@ withStatus s c = record { registers = c .registers; address = c .address; buffer
 abbrev pub withRedraw : Bool → Chip → Chip
 withRedraw m c = record { registers = c .registers; address = c .address; buffer = c .buffer; waiting = c .waiting; status = c .status; redraw = m }
 
+-- That a list holds bytes.
+abbrev pub Bytes : List ℕ → Type 0
+Bytes l = (i : ℕ) → getD l i 0 < 256
+
 -- That the values fit their types, as they do in every state that code holds: eight registers, and each number within its width.
 pub record Fits (c : Chip) : Type 0 where
   pub eight : length (c .registers) ≡ 8
-  pub registers : (n : ℕ) → register n (c .registers) < 256
+  pub registers : Bytes (c .registers)
   pub address : c .address < 65536
   pub buffer : c .buffer < 256
   pub waiting : byteOf (c .waiting) < 256

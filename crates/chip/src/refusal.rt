@@ -1,7 +1,6 @@
 // Refusals, and the answer that every call gives.
 ghost use mathlib.Core.Path.{_≡_};
-ghost use Prim.Native.Nat.{_+_, _*_};
-ghost use Rattle.chip.specs.Refusals.{numberOf};
+ghost use Rattle.chip.specs.Refusals.{numberOf, resultOf};
 use crate::state::Chip;
 
 pub enum Refusal {
@@ -42,7 +41,7 @@ impl Refusal {
 impl Answer {
     // One number for a caller in C: 256 times the refusal number, plus the byte read.
     pub fn number(self) -> u32
-        ensures { λ r. ⌜ r ≡ numberOf (self .refusal) * 256 + self .value ⌝ }
+        ensures { λ r. ⌜ r ≡ resultOf self ⌝ }
     {
         let refusal = self.refusal;
         refusal.number() * 256 + self.value as u32

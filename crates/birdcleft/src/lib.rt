@@ -1,0 +1,153 @@
+// The calls from C. Each loads the state from the lent block, makes the direct call and stores the next state.
+ghost use mathlib.Core.Path.{_≡_};
+ghost use Prim.Native.Nat.{_*_};
+ghost use lib.ListN.{length};
+ghost use Rattle.chip.specs.Refusals.{numberOf, resultOf, refusalOf};
+ghost use Rattle.chip.specs.Layout.{blockOf, blockTests};
+ghost use Rattle.birdcleft.specs.Calls as calls;
+use chip::Answer;
+use chip::Chip;
+use chip::Refusal;
+
+// 256 times the number of the refusal that the block gives: 0 where it holds a state.
+fn block_refused(block: &[u8]) -> u32
+    ensures { λ r. ⌜ r ≡ numberOf (refusalOf (blockTests (now (block .entry)))) * 256 ⌝ }
+{
+    if block.len() != 15 {
+        return 512;
+    }
+    if !chip::holds_block(block) {
+        return 768;
+    }
+    0
+}
+
+// Stores the next state, and gives the answer as one number.
+fn finish(answer: Answer, block: &mut [u8]) -> u32
+    requires { ⌜ length (now block) ≡ 15 ⌝ }
+    ensures { λ r. ⌜ r ≡ resultOf answer ⌝ }
+    ensures { λ _. ⌜ now (block .exit) ≡ blockOf (answer .chip) ⌝ }
+{
+    let next = answer.chip;
+    next.store(block);
+    answer.number()
+}
+
+#[no_mangle]
+pub extern "C" fn vdp_power_up(block: &mut [u8], vram: &mut [u8]) -> u32
+    ensures { λ r. ⌜ r ≡ calls.powerUp (now (block .entry)) (now (vram .entry)) .result ⌝ }
+    ensures { λ _. ⌜ now (block .exit) ≡ calls.powerUp (now (block .entry)) (now (vram .entry)) .block ⌝ }
+    ensures { λ _. ⌜ now (vram .exit) ≡ calls.powerUpVram (now (block .entry)) (now (vram .entry)) ⌝ }
+{
+    if vram.len() != 16384 {
+        return 256;
+    }
+    if block.len() != 15 {
+        return 512;
+    }
+    let answer = chip::load(block).power_up(vram);
+    finish(answer, block)
+}
+
+#[no_mangle]
+pub extern "C" fn vdp_control_write(block: &mut [u8], vram: &[u8], byte: u8) -> u32
+    ensures { λ r. ⌜ r ≡ calls.controlWrite (now (block .entry)) (now (vram .entry)) byte .result ⌝ }
+    ensures { λ _. ⌜ now (block .exit) ≡ calls.controlWrite (now (block .entry)) (now (vram .entry)) byte .block ⌝ }
+{
+    if vram.len() != 16384 {
+        return 256;
+    }
+    let refused = block_refused(block);
+    if refused != 0 {
+        return refused;
+    }
+    let answer = chip::load(block).control_write(vram, byte);
+    finish(answer, block)
+}
+
+#[no_mangle]
+pub extern "C" fn vdp_data_write(block: &mut [u8], vram: &mut [u8], map: &mut [u8], byte: u8) -> u32
+    ensures { λ r. ⌜ r ≡ calls.dataWrite (now (block .entry)) (now (vram .entry)) (now (map .entry)) byte .result ⌝ }
+    ensures { λ _. ⌜ now (block .exit) ≡ calls.dataWrite (now (block .entry)) (now (vram .entry)) (now (map .entry)) byte .block ⌝ }
+    ensures { λ _. ⌜ now (vram .exit) ≡ calls.dataWriteVram (now (block .entry)) (now (vram .entry)) (now (map .entry)) byte ⌝ }
+    ensures { λ _. ⌜ now (map .exit) ≡ calls.dataWriteMap (now (block .entry)) (now (vram .entry)) (now (map .entry)) ⌝ }
+{
+    if vram.len() != 16384 {
+        return 256;
+    }
+    if map.len() != 2048 {
+        return 512;
+    }
+    let refused = block_refused(block);
+    if refused != 0 {
+        return refused;
+    }
+    let answer = chip::load(block).data_write(vram, map, byte);
+    finish(answer, block)
+}
+
+#[no_mangle]
+pub extern "C" fn vdp_data_read(block: &mut [u8], vram: &[u8]) -> u32
+    ensures { λ r. ⌜ r ≡ calls.dataRead (now (block .entry)) (now (vram .entry)) .result ⌝ }
+    ensures { λ _. ⌜ now (block .exit) ≡ calls.dataRead (now (block .entry)) (now (vram .entry)) .block ⌝ }
+{
+    if vram.len() != 16384 {
+        return 256;
+    }
+    let refused = block_refused(block);
+    if refused != 0 {
+        return refused;
+    }
+    let answer = chip::load(block).data_read(vram);
+    finish(answer, block)
+}
+
+#[no_mangle]
+pub extern "C" fn vdp_status_read(block: &mut [u8]) -> u32
+    ensures { λ r. ⌜ r ≡ calls.statusRead (now (block .entry)) .result ⌝ }
+    ensures { λ _. ⌜ now (block .exit) ≡ calls.statusRead (now (block .entry)) .block ⌝ }
+{
+    let refused = block_refused(block);
+    if refused != 0 {
+        return refused;
+    }
+    let answer = chip::load(block).status_read();
+    finish(answer, block)
+}
+
+#[no_mangle]
+pub extern "C" fn vdp_end_of_display(block: &mut [u8]) -> u32
+    ensures { λ r. ⌜ r ≡ calls.endOfDisplay (now (block .entry)) .result ⌝ }
+    ensures { λ _. ⌜ now (block .exit) ≡ calls.endOfDisplay (now (block .entry)) .block ⌝ }
+{
+    let refused = block_refused(block);
+    if refused != 0 {
+        return refused;
+    }
+    let answer = chip::load(block).end_of_display();
+    finish(answer, block)
+}
+
+#[no_mangle]
+pub extern "C" fn vdp_interrupt_line(block: &[u8]) -> u32
+    ensures { λ r. ⌜ r ≡ calls.interruptLine (now (block .entry)) .result ⌝ }
+{
+    let refused = block_refused(block);
+    if refused != 0 {
+        return refused;
+    }
+    chip::load(block).interrupt_line().number()
+}
+
+#[no_mangle]
+pub extern "C" fn vdp_reset(block: &mut [u8]) -> u32
+    ensures { λ r. ⌜ r ≡ calls.reset (now (block .entry)) .result ⌝ }
+    ensures { λ _. ⌜ now (block .exit) ≡ calls.reset (now (block .entry)) .block ⌝ }
+{
+    let refused = block_refused(block);
+    if refused != 0 {
+        return refused;
+    }
+    let answer = chip::load(block).reset();
+    finish(answer, block)
+}
