@@ -19,7 +19,7 @@ unfoldable pub through : Refusal → List ℕ → (Chip → Answer) → FromC
 through r block method =
     record {
       result = ifAccepted r (resultOf (method (chipOf block))) (numberOf r * 256);
-      block = ifAccepted r (blockOf (method (chipOf block) .chip)) block
+      block = ifAccepted r (blockOf (method (chipOf block) .chip)) block;
     }
 
 -- Power-up tests the block's length, and not its contents, which it replaces.

@@ -1,6 +1,5 @@
 -- The display modes, and the tables in VRAM that registers 2 to 6 place.
-use Prim.Native.Nat.{ℕ, _+_, _*_, _/_}
-use mathlib.Core.Bool.{Bool, true, false, cond}
+use Prim.Native.Nat.{ℕ, _*_, _/_}
 use mathlib.Core.List.{List}
 use Rattle.chip.specs.Bits.{bit}
 use Rattle.chip.specs.State.{register}

@@ -1,11 +1,15 @@
 // The chip's state and its CPU ports: registers, address, read buffer, waiting first byte, status and redraw mark.
+mod access;
 mod bits;
+mod control;
+mod data;
 mod layout;
 mod lists;
 mod map;
-mod ports;
+mod power;
 mod refusal;
 mod state;
+mod status;
 
 pub use bits::bit;
 pub use bits::set_bit;

@@ -53,8 +53,9 @@ impl Chip {
     pub fn refused(self, refusal: Refusal) -> Answer
         ensures { λ r. ⌜ r ≡ record { chip = self; refusal = refusal; value = 0 } ⌝ }
     {
+        let given = self;
         Answer {
-            chip: self,
+            chip: given,
             refusal: refusal,
             value: 0,
         }

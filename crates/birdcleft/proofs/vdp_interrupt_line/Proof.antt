@@ -1,5 +1,5 @@
 -- `vdp_interrupt_line`: past the tests, the direct call after decoding.
-use mathlib.Core.Path.{_≡_, refl, _∙_}
+use mathlib.Core.Path.{_≡_, refl}
 use borrow.Author.Needs.{needs}
 use Rattle.chip.specs.Calls as direct
 use Rattle.chip.specs.Refusals.{refusalOf}

@@ -10,12 +10,12 @@ use lib.ListN.{length, getD, take, length-append, List·getD-append}
 use lib.Seq.{take-at, take-all, take-suc, take-append-le, getD-at, getD-append-add}
 use mir.Val.{boolByte}
 use borrow.Author.Tests.{eqb-true, eqb-false, leb-true}
-use Rattle.chip.specs.State.{Bytes, Fits, flagOf, byteOf, waitingOf, wellFormed, withRedraw}
+use Rattle.chip.specs.State.{Bytes, flagOf, byteOf, waitingOf, wellFormed, withRedraw}
 use Rattle.chip.specs.Layout.{encoded, decoded, holdsState, blockOf, chipOf, holdsBlock}
 use Rattle.chip.specs.declared.state.Chip.{Chip}
 use Rattle.chip.specs.declared.state.Waiting.{Waiting}
 use Rattle.chip.specs.declared.state.Waiting.the-variants.{Nothing, First}
-use Rattle.chip.proofs.Laws.Lists.{listed, take-tabulate, tabulate}
+use Rattle.chip.proofs.Laws.Lists.{take-tabulate}
 use Rattle.chip.proofs.Laws.Ranges.{and-left, and-right, and-both}
 
 -- the waiting byte, as two bytes and back
@@ -40,7 +40,7 @@ module _ (c : Chip) (eight : length (c .registers) ≡ 8) where
         buffer = after 2 i;
         waiting = (ap₂ waitingOf (after 3) (after 4) ∙ waits (c .waiting)) i;
         status = after 5 i;
-        redraw = m
+        redraw = m;
       }
 
   pub length-encoded : length (encoded c) ≡ 14
@@ -72,7 +72,7 @@ module _ (p q : List ℕ) (fourteen : length p ≡ 14) where
         buffer = front 10 (lit< tt) i;
         waiting = waitingOf (front 11 (lit< tt) i) (front 12 (lit< tt) i);
         status = front 13 (lit< tt) i;
-        redraw = m
+        redraw = m;
       }
 
   holds-front : holdsState (p ++ q) ≡ holdsState p

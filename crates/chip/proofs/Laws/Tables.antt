@@ -8,7 +8,7 @@ use borrow.Author.Tests.{eqb-true}
 use lib.Bits.{and-le-r}
 use lib.Dec.{lit<}
 use lib.ListN.{getD}
-use Rattle.chip.specs.State.{vramSize, masks, kept, register, obeys, masked}
+use Rattle.chip.specs.State.{vramSize, masks, register, obeys, masked}
 use Rattle.chip.specs.Tables.{Mode, graphicsI, graphicsII, multicolor, text, Table, names, colours, patterns, attributes, spritePatterns, base, size}
 use Rattle.chip.proofs.Laws.Ranges.{each-holds}
 

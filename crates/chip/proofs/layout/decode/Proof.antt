@@ -1,61 +1,45 @@
+-- `decode` meets its contract.
 use native.Mathlib.Omega.{arith}
 use borrow.Author.Needs.{needs}
 use Rattle.chip.proofs.layout.decode.Statement.{statement}
 use Rattle.chip.proofs.layout.decode.Tie as tie
-use Rattle.chip.proofs.layout.decode.Reads as reads
-use Rattle.chip.proofs.layout.decode.Lts as lts
-use Rattle.chip.proofs.layout.registers_of.Reads as registers-of-reads
-use Rattle.chip.proofs.layout.waiting_of.Reads as waiting-of-reads
 
--- src/layout.rt:33:9
 registers-of-requires : tie.Need-registers-of-requires
 registers-of-requires c κs = search needs
 
--- src/layout.rt:34:30
 shared-slice-read-waiting-of : tie.Need-shared-slice-read-waiting-of
 shared-slice-read-waiting-of c = search needs
 
--- src/layout.rt:34:37
 shared-slice-read-waiting-of-2 : tie.Need-shared-slice-read-waiting-of-2
 shared-slice-read-waiting-of-2 c = search needs
 
--- src/layout.rt:34:9
 waiting-of-requires : tie.Need-waiting-of-requires
 waiting-of-requires c κs = search needs
 
--- src/layout.rt:37:18
 shared-slice-read-t6 : tie.Need-shared-slice-read-t6
 shared-slice-read-t6 c = search needs
 
--- src/layout.rt:37:18
 cast-t10 : tie.Need-cast-t10
 cast-t10 c = omega (arith, c .shared-slice-known4 .given 8)
 
--- src/layout.rt:37:39
 shared-slice-read-t8 : tie.Need-shared-slice-read-t8
 shared-slice-read-t8 c = search needs
 
--- src/layout.rt:37:39
 cast-t12 : tie.Need-cast-t12
 cast-t12 c = omega (arith, c .shared-slice-known5 .given 9)
 
--- src/layout.rt:37:32
 mul-t13 : tie.Need-mul-t13
 mul-t13 c = omega (arith, c .shared-slice-known5 .given 9)
 
--- src/layout.rt:37:18
 add-t14 : tie.Need-add-t14
 add-t14 c = omega (arith, c .shared-slice-known5 .given 8, c .shared-slice-known5 .given 9)
 
--- src/layout.rt:38:17
 shared-slice-read-t16 : tie.Need-shared-slice-read-t16
 shared-slice-read-t16 c = search needs
 
--- src/layout.rt:40:17
 shared-slice-read-t18 : tie.Need-shared-slice-read-t18
 shared-slice-read-t18 c = search needs
 
--- src/layout.rt:29:1
 returns : tie.Need-returns
 returns c = simp (c .before .before .before .before .before .before .before .registers-of .ensures, c .before .before .before .before .waiting-of .ensures)
 

@@ -1,8 +1,8 @@
 -- `clear`: the bytes before `i` are 0.
-use Prim.Native.Nat.{ℕ, _≤_, _-_}
+use Prim.Native.Nat.{_≤_, _-_}
 use native.Mathlib.Omega.{arith}
-use mathlib.Core.Path.{_≡_, refl, sym, _∙_}
-use lib.ListN.{length, getD, length-set, replicate, length-replicate, getD-replicate}
+use mathlib.Core.Path.{_≡_, refl}
+use lib.ListN.{length, length-set, length-replicate, getD-replicate}
 use Rattle.chip.proofs.Laws.Lists.{Filled, filled-none, filled-more, filled-all}
 use Rattle.chip.proofs.lists.clear.Statement.{statement}
 use Rattle.chip.proofs.lists.clear.Tie as tie

@@ -1,7 +1,7 @@
 -- `copy`: the bytes before `i` are those of `from`.
-use Prim.Native.Nat.{ℕ, _≤_, _-_}
+use Prim.Native.Nat.{_≤_, _-_}
 use native.Mathlib.Omega.{arith}
-use mathlib.Core.Path.{_≡_, refl, sym, _∙_}
+use mathlib.Core.Path.{_≡_, refl}
 use lib.ListN.{length, getD, length-set}
 use Rattle.chip.proofs.Laws.Lists.{Filled, filled-none, filled-more, filled-all}
 use denote.Ref.{now}

@@ -4,27 +4,19 @@ use borrow.Author.Needs.{needs}
 use Rattle.chip.proofs.Laws.Refusals.{number-small}
 use Rattle.chip.proofs.refusal.Answer.number.Statement.{statement}
 use Rattle.chip.proofs.refusal.Answer.number.Tie as tie
-use Rattle.chip.proofs.refusal.Answer.number.Reads as reads
-use Rattle.chip.proofs.refusal.Answer.number.Lts as lts
-use Rattle.chip.proofs.refusal.Refusal.number.Reads as number-reads
 
--- src/refusal.rt:48:9
 number-requires : tie.Need-number-requires
 number-requires c κs = search needs
 
--- src/refusal.rt:48:9
 mul-result : tie.Need-mul-result
 mul-result c = omega (arith, number-small (c .before .args .self .refusal))
 
--- src/refusal.rt:48:34
 cast-result : tie.Need-cast-result
 cast-result c = search needs
 
--- src/refusal.rt:48:9
 add-result : tie.Need-add-result
 add-result c = omega (arith, number-small (c .before .before .args .self .refusal))
 
--- src/refusal.rt:44:5
 returns : tie.Need-returns
 returns c = search needs
 

@@ -1,33 +1,24 @@
+-- `complete` meets its contract.
 use borrow.Author.Tests.{le-leb, lt-leb, lt-ltb, le-ltb}
 use borrow.Author.Needs.{needs}
 use Rattle.chip.proofs.state.Chip.complete.Statement.{statement}
 use Rattle.chip.proofs.state.Chip.complete.Tie as tie
-use Rattle.chip.proofs.state.Chip.complete.Reads as reads
-use Rattle.chip.proofs.state.Chip.complete.Lts as lts
-use Rattle.chip.proofs.state.Chip.prefetch.Reads as prefetch-reads
-use Rattle.chip.proofs.state.Chip.write_register.Reads as write-register-reads
 
--- src/ports.rt:68:40
 cast-write-register : tie.Need-cast-write-register
 cast-write-register c = search needs
 
--- src/ports.rt:68:13
 write-register-requires : tie.Need-write-register-requires
 write-register-requires c κs = search needs
 
--- src/ports.rt:68:13
 returns : tie.Need-returns
 returns c = simp (le-leb _ _ (c .before .if1 .taken), c .write-register .ensures)
 
--- src/ports.rt:71:13
 prefetch-requires : tie.Need-prefetch-requires
 prefetch-requires c κs = search needs
 
--- src/ports.rt:71:13
 returns-2 : tie.Need-returns-2
 returns-2 c = simp (lt-leb _ _ (c .before .before .if1 .left), lt-ltb _ _ (c .before .if2 .taken), c .prefetch .ensures)
 
--- src/ports.rt:63:5
 returns-3 : tie.Need-returns-3
 returns-3 c = simp (lt-leb _ _ (c .before .if1 .left), le-ltb _ _ (c .if2 .left))
 

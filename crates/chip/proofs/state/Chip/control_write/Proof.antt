@@ -1,47 +1,33 @@
-use mathlib.Core.Path.{_≡_, sym, _∙_}
+-- `control_write` meets its contract.
 use borrow.Author.Tests.{eq-eqb, ne-eqb}
 use Rattle.chip.proofs.Laws.State.{taken-not, left-not, address-in}
 use borrow.Author.Needs.{needs}
 use Rattle.chip.proofs.state.Chip.control_write.Statement.{statement}
 use Rattle.chip.proofs.state.Chip.control_write.Tie as tie
-use Rattle.chip.proofs.state.Chip.control_write.Reads as reads
-use Rattle.chip.proofs.state.Chip.control_write.Lts as lts
-use Rattle.chip.proofs.state.Chip.accepted.Reads as accepted-reads
-use Rattle.chip.proofs.state.Chip.is_well_formed.Reads as is-well-formed-reads
-use Rattle.chip.proofs.state.Chip.refused.Reads as refused-reads
-use Rattle.chip.proofs.state.Chip.take_control_byte.Reads as take-control-byte-reads
 
--- src/ports.rt:95:13
 refused-requires : tie.Need-refused-requires
 refused-requires c κs = search needs
 
--- src/ports.rt:95:13
 returns : tie.Need-returns
 returns c = rw (ne-eqb _ _ (c .before .if1 .taken)) (c .refused .ensures)
 
--- src/ports.rt:97:13
 is-well-formed-requires : tie.Need-is-well-formed-requires
 is-well-formed-requires c κs = search needs
 
--- src/ports.rt:98:13
 refused-requires-2 : tie.Need-refused-requires-2
 refused-requires-2 c κs = search needs
 
--- src/ports.rt:98:13
 returns-2 : tie.Need-returns-2
 returns-2 c =
     rw (eq-eqb _ _ (c .before .before .before .if1 .left), taken-not (c .before .before .is-well-formed .ensures) (c .before .if2 .taken))
     (c .refused2 .ensures)
 
--- src/ports.rt:100:13
 take-control-byte-requires : tie.Need-take-control-byte-requires
 take-control-byte-requires c κs = (address-in _ (left-not (c .before .is-well-formed .ensures) (c .if2 .left)), c .before .before .if1 .left)
 
--- src/ports.rt:101:9
 accepted-requires : tie.Need-accepted-requires
 accepted-requires c κs = search needs
 
--- src/ports.rt:91:5
 returns-3 : tie.Need-returns-3
 returns-3 c =
     let d = c .before .before in

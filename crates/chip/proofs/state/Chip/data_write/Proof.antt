@@ -1,66 +1,49 @@
-use mathlib.Core.Path.{_≡_, refl, sym, ap, _∙_}
+-- `data_write` meets its contract.
+use mathlib.Core.Path.{refl}
 use borrow.Author.Tests.{eq-eqb, ne-eqb}
 use Rattle.chip.proofs.Laws.State.{taken-not, left-not, address-in}
 use borrow.Author.Needs.{needs}
 use Rattle.chip.proofs.state.Chip.data_write.Statement.{statement}
 use Rattle.chip.proofs.state.Chip.data_write.Tie as tie
-use Rattle.chip.proofs.state.Chip.data_write.Reads as reads
-use Rattle.chip.proofs.state.Chip.data_write.Lts as lts
-use Rattle.chip.proofs.state.Chip.accepted.Reads as accepted-reads
-use Rattle.chip.proofs.state.Chip.is_well_formed.Reads as is-well-formed-reads
-use Rattle.chip.proofs.state.Chip.refused.Reads as refused-reads
-use Rattle.chip.proofs.state.Chip.take_data_byte.Reads as take-data-byte-reads
 
--- src/ports.rt:126:13
 refused-requires : tie.Need-refused-requires
 refused-requires c κs = search needs
 
--- src/ports.rt:126:13
 returns : tie.Need-returns
 returns c = rw (ne-eqb _ _ (c .before .if1 .taken)) (c .refused .ensures, (refl, refl))
 
--- src/ports.rt:129:13
 refused-requires-2 : tie.Need-refused-requires-2
 refused-requires-2 c κs = search needs
 
--- src/ports.rt:129:13
 returns-2 : tie.Need-returns-2
 returns-2 c = rw (eq-eqb _ _ (c .before .before .if1 .left), ne-eqb _ _ (c .before .if2 .taken)) (c .refused2 .ensures, (refl, refl))
 
--- src/ports.rt:131:13
 is-well-formed-requires : tie.Need-is-well-formed-requires
 is-well-formed-requires c κs = search needs
 
--- src/ports.rt:132:13
 refused-requires-3 : tie.Need-refused-requires-3
 refused-requires-3 c κs = search needs
 
--- src/ports.rt:132:13
 returns-3 : tie.Need-returns-3
 returns-3 c =
     let d = c .before .before .before in
     rw (eq-eqb _ _ (d .before .if1 .left), eq-eqb _ _ (d .if2 .left), taken-not (c .before .before .is-well-formed .ensures) (c .before .if3 .taken))
     (c .refused3 .ensures, (refl, refl))
 
--- src/ports.rt:134:13
 take-data-byte-requires : tie.Need-take-data-byte-requires
 take-data-byte-requires c κs =
     let d = c .before .before .before in
     (address-in _ (left-not (d .is-well-formed .ensures) (c .before .before .if3 .left)), d .before .before .if1 .left, d .before .if2 .left)
 
--- src/ports.rt:135:9
 accepted-requires : tie.Need-accepted-requires
 accepted-requires c κs = search needs
 
--- src/ports.rt:120:5
 same-length : tie.Need-same-length
 same-length c = search needs
 
--- src/ports.rt:120:5
 same-length-2 : tie.Need-same-length-2
 same-length-2 c = search needs
 
--- src/ports.rt:120:5
 returns-4 : tie.Need-returns-4
 returns-4 c =
     let w = c .before .before .before .before .before .take-data-byte in

@@ -1,3 +1,4 @@
+-- `encode` meets its contract.
 use Prim.Native.Nat.{_/_, _%_}
 use mathlib.Core.Path.{_≡_, sym, ap}
 use mathlib.Core.List.{[], _∷_, _++_}
@@ -7,60 +8,43 @@ use Rattle.chip.proofs.Laws.Lists.{listed}
 use borrow.Author.Needs.{needs}
 use Rattle.chip.proofs.state.Chip.encode.Statement.{statement}
 use Rattle.chip.proofs.state.Chip.encode.Tie as tie
-use Rattle.chip.proofs.state.Chip.encode.Reads as reads
-use Rattle.chip.proofs.state.Chip.encode.Lts as lts
-use Rattle.chip.proofs.state.Waiting.byte.Reads as byte-reads
-use Rattle.chip.proofs.state.Waiting.flag.Reads as flag-reads
 
--- src/layout.rt:83:19
 cast-low : tie.Need-cast-low
 cast-low c = search needs
 
--- src/layout.rt:84:20
 cast-high : tie.Need-cast-high
 cast-high c = search needs
 
--- src/layout.rt:86:13
 array-read-t9 : tie.Need-array-read-t9
 array-read-t9 c = search needs
 
--- src/layout.rt:87:13
 array-read-t12 : tie.Need-array-read-t12
 array-read-t12 c = search needs
 
--- src/layout.rt:88:13
 array-read-t15 : tie.Need-array-read-t15
 array-read-t15 c = search needs
 
--- src/layout.rt:89:13
 array-read-t18 : tie.Need-array-read-t18
 array-read-t18 c = search needs
 
--- src/layout.rt:90:13
 array-read-t21 : tie.Need-array-read-t21
 array-read-t21 c = search needs
 
--- src/layout.rt:91:13
 array-read-t24 : tie.Need-array-read-t24
 array-read-t24 c = search needs
 
--- src/layout.rt:92:13
 array-read-t27 : tie.Need-array-read-t27
 array-read-t27 c = search needs
 
--- src/layout.rt:93:13
 array-read-t30 : tie.Need-array-read-t30
 array-read-t30 c = search needs
 
--- src/layout.rt:97:13
 flag-requires : tie.Need-flag-requires
 flag-requires c κs = search needs
 
--- src/layout.rt:98:13
 byte-requires : tie.Need-byte-requires
 byte-requires c κs = search needs
 
--- src/layout.rt:78:5
 returns : tie.Need-returns
 returns c =
     let s = c .before .before .before .before .before .args .self in

@@ -1,16 +1,12 @@
+-- `is_well_formed` meets its contract.
 use Rattle.chip.specs.State.{wellFormed}
 use borrow.Author.Needs.{needs}
 use Rattle.chip.proofs.state.Chip.is_well_formed.Statement.{statement}
 use Rattle.chip.proofs.state.Chip.is_well_formed.Tie as tie
-use Rattle.chip.proofs.state.Chip.is_well_formed.Reads as reads
-use Rattle.chip.proofs.state.Chip.is_well_formed.Lts as lts
-use Rattle.chip.proofs.state.obeys_masks.Reads as obeys-masks-reads
 
--- src/state.rt:63:9
 obeys-masks-requires : tie.Need-obeys-masks-requires
 obeys-masks-requires c κs = search needs
 
--- src/state.rt:59:5
 returns : tie.Need-returns
 unfolding wellFormed
 returns c = simp (c .before .obeys-masks .ensures)

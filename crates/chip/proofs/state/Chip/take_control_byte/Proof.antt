@@ -1,52 +1,38 @@
+-- `take_control_byte` meets its contract.
 use borrow.Author.Needs.{needs}
 use Rattle.chip.proofs.state.Chip.take_control_byte.Statement.{statement}
 use Rattle.chip.proofs.state.Chip.take_control_byte.Tie as tie
-use Rattle.chip.proofs.state.Chip.take_control_byte.Reads as reads
-use Rattle.chip.proofs.state.Chip.take_control_byte.Lts as lts
-use Rattle.chip.proofs.state.Chip.complete.Reads as complete-reads
-use Rattle.chip.proofs.state.Chip.with_waiting.Reads as with-waiting-reads
 
--- src/ports.rt:81:28
 enum-known-waiting : tie.Need-enum-known-waiting
 enum-known-waiting c = search needs
 
--- src/ports.rt:82:38
 enum-told : tie.Need-enum-told
 enum-told c = search needs
 
--- src/ports.rt:82:13
 with-waiting-requires : tie.Need-with-waiting-requires
 with-waiting-requires c κs = search needs
 
--- src/ports.rt:82:13
 returns : tie.Need-returns
 returns c = rw (c .before .enum-told .given .1) (c .with-waiting .ensures)
 
--- src/ports.rt:84:13
 with-waiting-requires-2 : tie.Need-with-waiting-requires-2
 with-waiting-requires-2 c κs = search needs
 
--- src/ports.rt:85:24
 cast-next : tie.Need-cast-next
 cast-next c = search needs
 
--- src/ports.rt:85:24
 mul-next : tie.Need-mul-next
 mul-next c = search needs
 
--- src/ports.rt:85:48
 cast-next-2 : tie.Need-cast-next-2
 cast-next-2 c = search needs
 
--- src/ports.rt:85:24
 add-next : tie.Need-add-next
 add-next c = search needs
 
--- src/ports.rt:86:9
 complete-requires : tie.Need-complete-requires
 complete-requires c κs = search needs
 
--- src/ports.rt:76:5
 returns-2 : tie.Need-returns-2
 returns-2 c = rw (c .before .before .before .waiting .given .1) (rw (c .before .with-waiting2 .ensures) at (c .complete .ensures))
 

@@ -1,0 +1,1 @@
+// Definitions and theorems alone: no code stands here. specs/ has the statements, proofs/ the proofs.
