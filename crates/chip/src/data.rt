@@ -22,10 +22,10 @@ impl Chip {
         let at = self.address;
         vram[at as usize] = b;
         mark(map, at as usize);
-        let mut next = self.with_waiting(Waiting::Nothing);
-        next.buffer = b;
-        next.address = step(at);
-        next
+        let mut written = self.with_waiting(Waiting::Nothing);
+        written.buffer = b;
+        written.address = step(at);
+        written
     }
 
     pub fn data_write(self, vram: &mut [u8], map: &mut [u8], byte: u8) -> Answer

@@ -1,0 +1,71 @@
+/* Birdcleft: a proved model of the TMS9918A video display processor.
+ *
+ * Each call takes the chip's state as a lent block of 15 bytes and answers one number: 256 times the
+ * refusal number, plus the byte read (0 if none; the interrupt line as 1 or 0). A refused call leaves
+ * the block and every slice as they were. Slices of one call do not overlap, and no pointer is null,
+ * also where a length is 0. */
+#ifndef BIRDCLEFT_H
+#define BIRDCLEFT_H
+
+#include <stddef.h>
+#include <stdint.h>
+
+#ifdef __cplusplus
+extern "C" {
+#endif
+
+/* How many bytes each slice has. */
+enum {
+    VDP_BLOCK_SIZE = 15,
+    VDP_VRAM_SIZE = 16384,
+    VDP_MAP_SIZE = 2048
+};
+
+/* Refusal numbers. Tests run in the order 1, 2, 5, 6, 7, 3, 4. */
+enum {
+    VDP_ACCEPTED = 0,
+    VDP_VRAM_LENGTH = 1,     /* VRAM slice not 16,384 bytes */
+    VDP_SLICE_LENGTH = 2,    /* another slice of wrong length */
+    VDP_ILL_FORMED = 3,      /* the block holds no well-formed state */
+    VDP_LINE_NUMBER = 4,     /* line number above 191 */
+    VDP_SNAPSHOT_LENGTH = 5, /* snapshot slice not 16,406 bytes */
+    VDP_TRAILER = 6,         /* trailer mark or distance wrong */
+    VDP_CHECKSUM = 7         /* snapshot sum wrong */
+};
+
+/* The block: eight registers; the address, low byte first; the read buffer; 1 while a first control
+ * byte waits, else 0; that byte, else 0; status; the redraw mark as 0 or 1. */
+
+/* The parts of an answer. */
+#define VDP_REFUSAL(answer) ((answer) / 256u)
+#define VDP_VALUE(answer) ((uint8_t)((answer) % 256u))
+
+/* The state becomes that of power-up, and VRAM is filled with zeros. The block may hold anything. */
+uint32_t vdp_power_up(uint8_t *block, size_t block_len, uint8_t *vram, size_t vram_len);
+
+/* A byte to the control port: the first of a pair waits, the second completes it. */
+uint32_t vdp_control_write(uint8_t *block, size_t block_len, const uint8_t *vram, size_t vram_len, uint8_t byte);
+
+/* A byte to the data port: stored at the address and marked in the map of written bytes. */
+uint32_t vdp_data_write(uint8_t *block, size_t block_len, uint8_t *vram, size_t vram_len, uint8_t *map, size_t map_len, uint8_t byte);
+
+/* A byte from the data port. */
+uint32_t vdp_data_read(uint8_t *block, size_t block_len, const uint8_t *vram, size_t vram_len);
+
+/* Reads status, and clears its flags. */
+uint32_t vdp_status_read(uint8_t *block, size_t block_len);
+
+/* The end of active display: sets the frame flag. */
+uint32_t vdp_end_of_display(uint8_t *block, size_t block_len);
+
+/* Whether the interrupt line is on. */
+uint32_t vdp_interrupt_line(const uint8_t *block, size_t block_len);
+
+/* Reset: clears registers 0 and 1, status and the waiting byte. */
+uint32_t vdp_reset(uint8_t *block, size_t block_len);
+
+#ifdef __cplusplus
+}
+#endif
+
+#endif
