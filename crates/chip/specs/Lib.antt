@@ -7,4 +7,5 @@ pub mod Map
 pub mod Refusals
 pub mod Calls
 pub mod Layout
+pub mod Modes
 pub mod Tables

@@ -1,42 +1,55 @@
--- The display modes, and the tables in VRAM that registers 2 to 6 place.
+-- The tables in VRAM that registers 2 to 6 place: where each begins, and how many of its bytes a mode can read.
 use Prim.Native.Nat.{ℕ, _*_, _/_}
 use mathlib.Core.List.{List}
-use Rattle.chip.specs.Bits.{bit}
 use Rattle.chip.specs.State.{register}
-
-pub data Mode : Type 0 where
-  graphicsI graphicsII multicolor text : Mode
+use Rattle.chip.specs.declared.mode.Mode.{Mode}
+use Rattle.chip.specs.declared.mode.Mode.the-variants.{Blank, GraphicsI, GraphicsII, Multicolor, Text}
 
 pub data Table : Type 0 where
-  names colours patterns attributes spritePatterns : Table
+  names patterns colours attributes spritePatterns : Table
 
--- Where a table begins in a mode. Graphics II takes only the high bit of registers 3 and 4.
+-- Graphics II takes only the highest bit of registers 3 and 4.
+abbrev pub patternBase : Mode → ℕ → ℕ
+patternBase Blank r4 = r4 * 2048
+patternBase GraphicsI r4 = r4 * 2048
+patternBase GraphicsII r4 = r4 / 4 * 8192
+patternBase Multicolor r4 = r4 * 2048
+patternBase Text r4 = r4 * 2048
+
+abbrev pub colourBase : Mode → ℕ → ℕ
+colourBase Blank r3 = r3 * 64
+colourBase GraphicsI r3 = r3 * 64
+colourBase GraphicsII r3 = r3 / 128 * 8192
+colourBase Multicolor r3 = r3 * 64
+colourBase Text r3 = r3 * 64
+
 abbrev pub base : Mode → Table → List ℕ → ℕ
 base m names r = register 2 r * 1024
-base graphicsI colours r = register 3 r * 64
-base graphicsII colours r = register 3 r / 128 * 8192
-base multicolor colours r = register 3 r * 64
-base text colours r = register 3 r * 64
-base graphicsI patterns r = register 4 r * 2048
-base graphicsII patterns r = register 4 r / 4 * 8192
-base multicolor patterns r = register 4 r * 2048
-base text patterns r = register 4 r * 2048
+base m patterns r = patternBase m (register 4 r)
+base m colours r = colourBase m (register 3 r)
 base m attributes r = register 5 r * 128
 base m spritePatterns r = register 6 r * 2048
 
--- How many bytes a table has in a mode.
+-- A blank line reads nothing, Text no sprites, and Multicolor and Text no colour table.
 abbrev pub size : Mode → Table → ℕ
-size graphicsI names = 768
-size graphicsII names = 768
-size multicolor names = 768
-size text names = 960
-size graphicsI colours = 32
-size graphicsII colours = 6144
-size multicolor colours = 32
-size text colours = 32
-size graphicsI patterns = 2048
-size graphicsII patterns = 6144
-size multicolor patterns = 2048
-size text patterns = 2048
-size m attributes = 128
-size m spritePatterns = 2048
+size Blank t = 0
+size GraphicsI names = 768
+size GraphicsI patterns = 2048
+size GraphicsI colours = 32
+size GraphicsI attributes = 128
+size GraphicsI spritePatterns = 2048
+size GraphicsII names = 768
+size GraphicsII patterns = 6144
+size GraphicsII colours = 6144
+size GraphicsII attributes = 128
+size GraphicsII spritePatterns = 2048
+size Multicolor names = 768
+size Multicolor patterns = 2048
+size Multicolor colours = 0
+size Multicolor attributes = 128
+size Multicolor spritePatterns = 2048
+size Text names = 960
+size Text patterns = 2048
+size Text colours = 0
+size Text attributes = 0
+size Text spritePatterns = 0

@@ -66,9 +66,11 @@ pub fn holds_block(b: &[u8]) -> bool
     (b[14] <= 1) & holds_state(b)
 }
 
+pub type Layout = [u8; 14];
+
 impl Chip {
     // The 14 bytes.
-    pub fn encode(self) -> [u8; 14]
+    pub fn encode(self) -> Layout
         ensures { λ r. ⌜ r ≡ layout.encoded self ⌝ }
     {
         let r = self.registers;
