@@ -1,5 +1,6 @@
 -- The definitions that the contracts cite, in the order of the sections "State and ports" and "Refusal numbers".
 pub mod Bits
+pub mod Lists
 pub mod Ranges
 pub mod State
 pub mod Ports

@@ -2,13 +2,13 @@
 ghost use mathlib.Core.Path.{_≡_};
 ghost use lib.ListN.{length, replicate};
 
-// Fills a slice with zeros.
-pub fn clear(s: &mut [u8])
-    ensures { λ _. ⌜ now (s .exit) ≡ replicate (length (now (s .entry))) 0 ⌝ }
+// Fills a slice with one byte.
+pub fn fill(s: &mut [u8], byte: u8)
+    ensures { λ _. ⌜ now (s .exit) ≡ replicate (length (now (s .entry))) byte ⌝ }
 {
     let mut i = 0;
     while i < s.len() {
-        s[i] = 0;
+        s[i] = byte;
         i += 1;
     }
 }

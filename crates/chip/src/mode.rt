@@ -25,7 +25,11 @@ fn mode_by(m1: bool, m2: bool, m3: bool) -> Mode
     if m2 {
         return if m3 { Mode::Blank } else { Mode::Multicolor };
     }
-    if m3 { Mode::GraphicsII } else { Mode::GraphicsI }
+    if m3 {
+        Mode::GraphicsII
+    } else {
+        Mode::GraphicsI
+    }
 }
 
 pub fn mode_of(registers: [u8; 8]) -> Mode
@@ -34,5 +38,9 @@ pub fn mode_of(registers: [u8; 8]) -> Mode
     if !bit(registers[1], 6) {
         return Mode::Blank;
     }
-    mode_by(bit(registers[1], 4), bit(registers[1], 3), bit(registers[0], 1))
+    mode_by(
+        bit(registers[1], 4),
+        bit(registers[1], 3),
+        bit(registers[0], 1),
+    )
 }

@@ -1,7 +1,7 @@
 // Power-up and reset.
 ghost use mathlib.Core.Path.{_≡_};
 ghost use Rattle.chip.specs.Calls as calls;
-use crate::lists::clear;
+use crate::lists::fill;
 use crate::refusal::Answer;
 use crate::refusal::Refusal;
 use crate::state::Chip;
@@ -16,7 +16,7 @@ impl Chip {
         if vram.len() != 16384 {
             return self.refused(Refusal::VramLength);
         }
-        clear(vram);
+        fill(vram, 0);
         let fresh = Chip::power_up_state();
         fresh.accepted(0)
     }

@@ -5,6 +5,7 @@ use native.Mathlib.Nat.{mod-add-div}
 use mathlib.Core.Path.{_≡_, refl, sym, ap, ap₂, _∙_}
 use mathlib.Core.Bool.{Bool, true, false, cond, _&&_, _||_}
 use mathlib.Core.List.{List, [], _∷_, _++_}
+use Rattle.chip.specs.Lists.{tabulate}
 use lib.Dec.{eqb, leb, lit<}
 use lib.ListN.{length, getD, take, length-append, List·getD-append}
 use lib.Seq.{take-at, take-all, take-suc, take-append-le, getD-at, getD-append-add}
@@ -126,6 +127,7 @@ module _ (b : List ℕ) (bytes : Bytes b) (holds : holdsState b ≡ true) where
 
   -- Encoding what 14 bytes decode to gives the bytes back.
   pub encoded-decoded : (m : Bool) → 14 ≤ length b → encoded (decoded b m) ≡ take 14 b
+  unfolding tabulate
   encoded-decoded m long =
       let at : ℕ → ℕ = λ k. getD b k 0 in
       let low : (at 8 + 256 * at 9) % 256 ≡ at 8 = omega (arith, bytes 8, bytes 9) in

@@ -3,17 +3,14 @@ use Prim.Native.Nat.{ℕ, zero, suc, _+_, _≤_, _<_}
 use native.Mathlib.Nat.{not-suc-le-zero, le-of-suc-le-suc, ne-of-lt}
 use mathlib.Core.Path.{_≡_, refl, ap, sym, _∙_}
 use mathlib.Core.List.{List, [], _∷_, _++_}
+use Rattle.chip.specs.Lists.{tabulate}
 use lib.ListN.{length, getD, take, set}
 use lib.Seq.{take-all, set-at, ext-getD, getD-set-same, getD-set-other}
 use borrow.Author.Count.{below-more}
 use native.Mathlib.Omega.{arith}
 
--- f 0, f 1, .. f (n - 1)
-abbrev pub tabulate : ℕ → (ℕ → ℕ) → List ℕ
-tabulate zero f = []
-tabulate (suc n) f = f 0 ∷ tabulate n (λ i. f (suc i))
-
 pub take-tabulate : (n : ℕ) (l : List ℕ) → n ≤ length l → take n l ≡ tabulate n (λ i. getD l i 0)
+unfolding tabulate
 take-tabulate zero l h = refl
 take-tabulate (suc n) [] h = absurd (not-suc-le-zero h)
 take-tabulate (suc n) (x ∷ xs) h = ap {B = List ℕ} (λ t. x ∷ t) (take-tabulate n xs (le-of-suc-le-suc h))
@@ -21,6 +18,22 @@ take-tabulate (suc n) (x ∷ xs) h = ap {B = List ℕ} (λ t. x ∷ t) (take-tab
 -- a list of n elements, element by element
 pub listed : (n : ℕ) (l : List ℕ) → length l ≡ n → l ≡ tabulate n (λ i. getD l i 0)
 listed n l e = sym (take-all n l (omega arith)) ∙ take-tabulate n l (omega arith)
+
+pub length-tabulate : (n : ℕ) (f : ℕ → ℕ) → length (tabulate n f) ≡ n
+unfolding tabulate
+length-tabulate zero f = refl
+length-tabulate (suc n) f = ap suc (length-tabulate n (λ i. f (suc i)))
+
+pub getD-tabulate : (n : ℕ) (f : ℕ → ℕ) (i : ℕ) → i < n → getD (tabulate n f) i 0 ≡ f i
+unfolding tabulate
+getD-tabulate zero f i h = absurd (not-suc-le-zero h)
+getD-tabulate (suc n) f zero h = refl
+getD-tabulate (suc n) f (suc i) h = getD-tabulate n (λ j. f (suc j)) i (le-of-suc-le-suc h)
+
+-- a list of n elements that are f's
+pub tabulated : {l : List ℕ} {n : ℕ} {f : ℕ → ℕ} → length l ≡ n → ((i : ℕ) → i < n → getD l i 0 ≡ f i) → l ≡ tabulate n f
+tabulated {l} {n} {f} e h =
+    ext-getD 0 l (tabulate n f) (e ∙ sym (length-tabulate n f)) (λ i below. h i (omega arith) ∙ sym (getD-tabulate n f i (omega arith)))
 
 -- the one element after a list of n replaced
 pub set-last : (p q : List ℕ) (n x : ℕ) → length p ≡ n → length q ≡ 1 → set (p ++ q) n x ≡ p ++ (x ∷ [])

@@ -2,6 +2,7 @@
 use mathlib.Core.Path.{sym}
 use native.Mathlib.Omega.{arith}
 use denote.Ref.{now}
+use Rattle.chip.specs.Lists.{tabulate}
 use Rattle.chip.proofs.Laws.Lists.{take-tabulate}
 use borrow.Author.Needs.{needs}
 use Rattle.chip.proofs.layout.registers_of.Statement.{statement}
@@ -32,6 +33,7 @@ shared-slice-read-t17 : tie.Need-shared-slice-read-t17
 shared-slice-read-t17 c = search needs
 
 returns : tie.Need-returns
+unfolding tabulate
 returns c = sym (take-tabulate 8 (now (c .before .before .before .before .before .before .before .before .args .b)) (omega arith))
 
 pub registers-of-spec : {M : Type 1} → statement M

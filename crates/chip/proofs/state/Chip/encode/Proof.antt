@@ -4,6 +4,7 @@ use mathlib.Core.Path.{_≡_, sym, ap}
 use mathlib.Core.List.{[], _∷_, _++_}
 use lib.ListN.{length}
 use Rattle.chip.specs.State.{flagOf, byteOf}
+use Rattle.chip.specs.Lists.{tabulate}
 use Rattle.chip.proofs.Laws.Lists.{listed}
 use borrow.Author.Needs.{needs}
 use Rattle.chip.proofs.state.Chip.encode.Statement.{statement}
@@ -46,6 +47,7 @@ byte-requires : tie.Need-byte-requires
 byte-requires c κs = search needs
 
 returns : tie.Need-returns
+unfolding tabulate
 returns c =
     let s = c .before .before .before .before .before .args .self in
     let eight : length (s .registers) ≡ 8 = search needs in

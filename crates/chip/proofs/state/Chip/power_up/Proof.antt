@@ -14,8 +14,8 @@ refused-requires c κs = search needs
 returns : tie.Need-returns
 returns c = rw (ne-eqb _ _ (c .before .if1 .taken)) (c .refused .ensures, refl)
 
-clear-requires : tie.Need-clear-requires
-clear-requires c κs = search needs
+fill-requires : tie.Need-fill-requires
+fill-requires c κs = search needs
 
 power-up-state-requires : tie.Need-power-up-state-requires
 power-up-state-requires c κs = search needs
@@ -30,7 +30,7 @@ returns-2 : tie.Need-returns-2
 returns-2 c =
     let size : length (now (c .before .before .before .before .before .before .before .before .args .vram)) ≡ 16384 = omega arith in
     rw (eq-eqb _ _ size)
-    (rw (c .before .power-up-state .ensures) at (c .accepted .ensures), rw size at (c .before .before .before .before .clear .ensures))
+    (rw (c .before .power-up-state .ensures) at (c .accepted .ensures), rw size at (c .before .before .before .before .fill .ensures))
 
 pub power-up-spec : {M : Type 1} → statement M
 power-up-spec =
@@ -38,7 +38,7 @@ power-up-spec =
     (tie.spec
     refused-requires
     returns
-    clear-requires
+    fill-requires
     power-up-state-requires
     accepted-requires
     same-length

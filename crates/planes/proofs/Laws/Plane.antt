@@ -1,0 +1,66 @@
+-- The plane's colour inside and outside of the cells, for every mode at once.
+use Prim.Native.Nat.{ℕ, _+_, _*_, _≤_, _<_}
+use native.Mathlib.Nat.{zero-add, add-sub-cancel-left, le-add-right}
+use native.Mathlib.Omega.{arith}
+use mathlib.Core.Path.{_≡_, sym, ap, _∙_}
+use mathlib.Core.List.{List, []}
+use borrow.Author.Tests.{le-leb, lt-leb, lt-ltb, le-ltb}
+use lib.Arith.{digits-lt, digits-div, digits-mod}
+use lib.ListN.{length, getD, replicate, length-replicate, getD-replicate}
+use Rattle.chip.specs.declared.mode.Mode.{Mode}
+use Rattle.chip.proofs.Laws.Ranges.{and-false}
+use Rattle.planes.specs.Cells.{cellsIn, cellWidth, margin, cellOf, planeOf}
+use Rattle.planes.specs.Plane.{pick, noCell, planeColour}
+use Rattle.planes.specs.Pixel.{over, rear, pixelOf}
+use Rattle.planes.specs.Painted.{Painted}
+use Rattle.chip.specs.Lists.{tabulate}
+use Rattle.fetches.specs.Fetch.{value}
+use Rattle.fetches.proofs.Laws.{getD-each}
+use Rattle.planes.proofs.Laws.Cells.{columns-within}
+use Rattle.planes.proofs.Laws.Painted.{Shown, shown-more, shown-all}
+use Rattle.planes.specs.declared.cell.Cell.{Cell}
+
+module _ (m : Mode) (cells : List Cell) where
+  -- Pixel k of cell i stands at column margin + width·i + k: there the quotient of x - margin by the width is i, and the
+  -- remainder k.
+  pub in-cell : (i k : ℕ) → i < cellsIn m → k < cellWidth m → planeColour m cells (margin m + (i * cellWidth m + k)) ≡ pick (getD cells i noCell) k
+  unfolding planeColour
+  in-cell i k hi hk =
+      let within : margin m + (i * cellWidth m + k) < margin m + cellsIn m * cellWidth m = omega (arith, digits-lt {c = cellWidth m} hi hk) in
+      rw (le-leb _ _ (le-add-right (margin m) (i * cellWidth m + k)), lt-ltb _ _ within, add-sub-cancel-left, digits-div i hk, digits-mod i hk)
+
+  pub left-of-cells : (x : ℕ) → x < margin m → planeColour m cells x ≡ 0
+  unfolding planeColour
+  left-of-cells x h = rw (lt-leb _ _ h)
+
+  pub right-of-cells : (x : ℕ) → margin m + cellsIn m * cellWidth m ≤ x → planeColour m cells x ≡ 0
+  unfolding planeColour
+  right-of-cells x h = rw (le-ltb _ _ h, and-false)
+
+-- The plane over the backdrop, as a line shows it cell by cell.
+module _ (m : Mode) (r : List ℕ) (l : ℕ) (vram : List ℕ) where
+  abbrev pub colour : ℕ → ℕ
+  colour x = pixelOf r [] (planeColour m (value (planeOf m r l) vram) x)
+
+  -- before the first cell
+  pub shown-none : {line : List ℕ} → line ≡ replicate 256 (rear r) → Shown line colour (rear r) (margin m)
+  shown-none e =
+      record {
+        long = ap length e ∙ length-replicate 256 (rear r);
+        done = λ x h. rw (e, left-of-cells m (value (planeOf m r l) vram) x h) (getD-replicate 256 x (rear r) 0 (omega (arith, columns-within m)));
+        rest = λ x h below. rw e (getD-replicate 256 x (rear r) 0 below);
+      }
+
+  -- one cell more
+  pub shown-cell : {line new : List ℕ} {at : ℕ} (i : ℕ) → i < cellsIn m → at ≡ margin m + i * cellWidth m → Shown line colour (rear r) at → Painted new line at (cellWidth m) (λ k. over (pick (value (cellOf m r l i) vram) k) (rear r)) → Shown new colour (rear r) (at + cellWidth m)
+  shown-cell {line} {new} {at} i h e s p = shown-more same s p
+    where
+      same : (k : ℕ) → k < cellWidth m → over (pick (value (cellOf m r l i) vram) k) (rear r) ≡ colour (at + k)
+      same k hk =
+          let x : at + k ≡ margin m + (i * cellWidth m + k) = omega arith in
+          let cell : getD (value (planeOf m r l) vram) i noCell ≡ value (cellOf m r l i) vram = getD-each (cellOf m r l) vram 0 (cellsIn m) i noCell h ∙ ap (λ (j : ℕ). value (cellOf m r l j) vram) (zero-add i) in
+          rw (x, in-cell m (value (planeOf m r l) vram) i k h hk, cell)
+
+  -- all cells
+  pub shown-plane : {line : List ℕ} → Shown line colour (rear r) (margin m + cellsIn m * cellWidth m) → line ≡ tabulate 256 colour
+  shown-plane s = shown-all {colour = colour} {behind = rear r} (λ x h. rw (right-of-cells m (value (planeOf m r l) vram) x h)) s

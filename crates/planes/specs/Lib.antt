@@ -1,0 +1,5 @@
+-- "A line of 256 colours": the cells that a mode reads, the plane that they make, and what settles a pixel.
+pub mod Cells
+pub mod Plane
+pub mod Pixel
+pub mod Painted

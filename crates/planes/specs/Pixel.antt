@@ -1,0 +1,25 @@
+-- What settles a pixel.
+use Prim.Native.Nat.{ℕ, _%_}
+use mathlib.Core.Bool.{cond, not}
+use mathlib.Core.List.{List, [], _∷_}
+use lib.Dec.{eqb}
+use mir.Val.{boolByte}
+use Rattle.chip.specs.Modes.{externalVideo}
+use Rattle.chip.specs.State.{register}
+
+-- A colour in front of another: 0 lets the other through.
+abbrev pub over : ℕ → ℕ → ℕ
+over front behind = cond (eqb front 0) behind front
+
+-- The first non-zero colour of a list, or what stands behind them all.
+abbrev pub firstOf : List ℕ → ℕ → ℕ
+firstOf [] behind = behind
+firstOf (c ∷ l) behind = over c (firstOf l behind)
+
+-- Behind the pattern plane: the low nibble of register 7, and if that is 0 too, 1 with external video off and 0 with it on.
+abbrev pub rear : List ℕ → ℕ
+rear r = over (register 7 r % 16) (boolByte (not (externalVideo r)))
+
+-- A pixel: the first non-zero of the sprites' colours, lowest number first, the pattern plane's, and the rear.
+abbrev pub pixelOf : List ℕ → List ℕ → ℕ → ℕ
+pixelOf r sprites plane = firstOf sprites (over plane (rear r))

@@ -1,0 +1,19 @@
+// What settles a pixel.
+ghost use mathlib.Core.Path.{_≡_};
+ghost use Rattle.planes.specs.Pixel as pixel;
+use chip::bit;
+
+// A colour in front of another: 0 lets the other through.
+pub fn over(front: u8, behind: u8) -> u8
+    ensures { λ r. ⌜ r ≡ pixel.over front behind ⌝ }
+{
+    if front == 0 { behind } else { front }
+}
+
+// What stands behind the pattern plane.
+pub fn rear_of(registers: [u8; 8]) -> u8
+    ensures { λ r. ⌜ r ≡ pixel.rear registers ⌝ }
+{
+    let last = !bit(registers[0], 0);
+    over(registers[7] % 16, last as u8)
+}
