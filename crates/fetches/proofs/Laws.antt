@@ -1,10 +1,12 @@
 -- Laws of descriptions of what is read.
-use Prim.Native.Nat.{ℕ, zero, suc, _+_, _<_}
+use Prim.Native.Nat.{ℕ, zero, suc, _+_, _-_, _≤_, _<_}
+use native.Mathlib.Numerals.{add-one}
+use native.Mathlib.Omega.{arith}
 use native.Mathlib.Nat.{add-zero, add-suc, suc-add, not-suc-le-zero, le-of-suc-le-suc}
-use mathlib.Core.Path.{_≡_, refl, sym, ap, ap₂, subst, _∙_}
+use mathlib.Core.Path.{_≡_, refl, sym, ap, _∙_}
 use mathlib.Core.Bool.{Bool, true, false, _||_}
 use mathlib.Core.List.{List, [], _∷_, _++_, append-nil}
-use lib.ListN.{length, getD}
+use lib.ListN.{getD}
 use Rattle.chip.specs.Map.{isMarked}
 use Rattle.fetches.specs.Fetch.{Fetch, answer, fetch, value, fetched, followed, each, Agree, anyMarked}
 
@@ -69,3 +71,24 @@ marked-append map (x ∷ a) b = ap (λ (t : Bool). isMarked map x || t) (marked-
     or-assoc : (p q r : Bool) → (p || (q || r)) ≡ (p || q || r)
     or-assoc true q r = refl
     or-assoc false q r = refl
+
+-- A loop over a row of descriptions that looks for a marked byte: what it has still to look at decides.
+module _ {A : Type 0} (f : ℕ → Fetch A) (map m : List ℕ) where
+  abbrev pub from : ℕ → ℕ → Bool
+  from i n = anyMarked map (fetched (each i (n - i) f) m)
+
+  here : (i n : ℕ) → i < n → from i n ≡ (anyMarked map (fetched (f i) m) || from (i + 1) n)
+  here i n h =
+      let e : n - i ≡ suc (n - (i + 1)) = omega arith in
+      rw (e, fetched-each f m i (n - (i + 1)), marked-append map (fetched (f i) m), add-one)
+
+  pub marked-here : (i n : ℕ) → i < n → anyMarked map (fetched (f i) m) ≡ true → from i n ≡ true
+  marked-here i n h t = here i n h ∙ ap (λ (b : Bool). b || from (i + 1) n) t
+
+  pub marked-next : (i n : ℕ) → i < n → anyMarked map (fetched (f i) m) ≡ false → from i n ≡ from (i + 1) n
+  marked-next i n h t = here i n h ∙ ap (λ (b : Bool). b || from (i + 1) n) t
+
+  pub marked-end : (i n : ℕ) → n ≤ i → from i n ≡ false
+  marked-end i n h =
+      let e : n - i ≡ 0 = omega arith in
+      rw (e, fetched-none f m i)

@@ -5,7 +5,10 @@ ghost use Prim.Native.Nat.{_<_};
 ghost use lib.ListN.{length};
 ghost use Rattle.chip.specs.State.{masked};
 ghost use Rattle.fetches.specs.Fetch.{value};
-ghost use Rattle.planes.specs.Cells.{cellsIn, shapeOf, cellOf};
+ghost use Rattle.planes.specs.Cells.{cellsIn, patternAndColours, shapeOf, cellOf};
+use crate::address::colours_at;
+use crate::address::name_at;
+use crate::address::pattern_at;
 use chip::Mode;
 
 // A pattern byte, and the colours of its 1 bits (high nibble) and 0 bits (low nibble).
@@ -14,58 +17,15 @@ pub struct Cell {
     pub colours: u8,
 }
 
-// Graphics I: the colours of eight names stand in one byte.
-fn graphics_i(r: [u8; 8], vram: &[u8], l: usize, name: u8) -> Cell
+fn pattern_and_colours(mode: Mode, r: [u8; 8], vram: &[u8], l: usize, name: u8) -> Cell
     requires { ⌜ (masked r ≡ true) × (length (now vram) ≡ 16384) × (l < 192) ⌝ }
-    ensures { λ c. ⌜ c ≡ value (shapeOf Mode.GraphicsI r l name) (now (vram .entry)) ⌝ }
+    ensures { λ c. ⌜ c ≡ value (patternAndColours mode r l name) (now (vram .entry)) ⌝ }
 {
-    let n = name as usize;
-    let pattern = vram[r[4] as usize * 2048 + (8 * n + l % 8)];
-    let colours = vram[r[3] as usize * 64 + n / 8];
+    let pattern = vram[pattern_at(mode, r, l, name)];
+    let colours = vram[colours_at(mode, r, l, name)];
     Cell {
         pattern: pattern,
         colours: colours,
-    }
-}
-
-// Graphics II: each byte of a pattern has its own colours, and each third of the screen its own patterns.
-fn graphics_ii(r: [u8; 8], vram: &[u8], l: usize, name: u8) -> Cell
-    requires { ⌜ (masked r ≡ true) × (length (now vram) ≡ 16384) × (l < 192) ⌝ }
-    ensures { λ c. ⌜ c ≡ value (shapeOf Mode.GraphicsII r l name) (now (vram .entry)) ⌝ }
-{
-    let n = name as usize;
-    let offset = l / 64 * 2048 + 8 * n + l % 8;
-    let pattern = vram[r[4] as usize / 4 * 8192 + offset];
-    let colours = vram[r[3] as usize / 128 * 8192 + offset];
-    Cell {
-        pattern: pattern,
-        colours: colours,
-    }
-}
-
-// Multicolor: the byte holds the colours of the left and the right four pixels.
-fn multicolor(r: [u8; 8], vram: &[u8], l: usize, name: u8) -> Cell
-    requires { ⌜ (masked r ≡ true) × (length (now vram) ≡ 16384) × (l < 192) ⌝ }
-    ensures { λ c. ⌜ c ≡ value (shapeOf Mode.Multicolor r l name) (now (vram .entry)) ⌝ }
-{
-    let n = name as usize;
-    let colours = vram[r[4] as usize * 2048 + (8 * n + l / 4 % 8)];
-    Cell {
-        pattern: 0xF0,
-        colours: colours,
-    }
-}
-
-// Text: register 7 holds the colours.
-fn text(r: [u8; 8], vram: &[u8], l: usize, name: u8) -> Cell
-    requires { ⌜ (masked r ≡ true) × (length (now vram) ≡ 16384) × (l < 192) ⌝ }
-    ensures { λ c. ⌜ c ≡ value (shapeOf Mode.Text r l name) (now (vram .entry)) ⌝ }
-{
-    let n = name as usize;
-    let pattern = vram[r[4] as usize * 2048 + (8 * n + l % 8)];
-    Cell {
-        pattern: pattern,
-        colours: r[7],
     }
 }
 
@@ -79,23 +39,22 @@ fn shape_of(mode: Mode, r: [u8; 8], vram: &[u8], l: usize, name: u8) -> Cell
             pattern: 0,
             colours: 0,
         },
-        Mode::GraphicsI => graphics_i(r, vram, l, name),
-        Mode::GraphicsII => graphics_ii(r, vram, l, name),
-        Mode::Multicolor => multicolor(r, vram, l, name),
-        Mode::Text => text(r, vram, l, name),
-    }
-}
-
-// How many cells a line has.
-pub fn cells_in(mode: Mode) -> usize
-    ensures { λ n. ⌜ n ≡ cellsIn mode ⌝ }
-{
-    match mode {
-        Mode::Blank => 0,
-        Mode::GraphicsI => 32,
-        Mode::GraphicsII => 32,
-        Mode::Multicolor => 32,
-        Mode::Text => 40,
+        Mode::GraphicsI => pattern_and_colours(mode, r, vram, l, name),
+        Mode::GraphicsII => pattern_and_colours(mode, r, vram, l, name),
+        Mode::Multicolor => {
+            let colours = vram[pattern_at(mode, r, l, name)];
+            Cell {
+                pattern: 0xF0,
+                colours: colours,
+            }
+        }
+        Mode::Text => {
+            let pattern = vram[pattern_at(mode, r, l, name)];
+            Cell {
+                pattern: pattern,
+                colours: r[7],
+            }
+        }
     }
 }
 
@@ -104,6 +63,6 @@ pub fn cell_of(mode: Mode, r: [u8; 8], vram: &[u8], l: usize, i: usize) -> Cell
     requires { ⌜ (masked r ≡ true) × (length (now vram) ≡ 16384) × (l < 192) × (i < cellsIn mode) ⌝ }
     ensures { λ c. ⌜ c ≡ value (cellOf mode r l i) (now (vram .entry)) ⌝ }
 {
-    let name = vram[r[2] as usize * 1024 + (l / 8 * cells_in(mode) + i)];
+    let name = vram[name_at(mode, r, l, i)];
     shape_of(mode, r, vram, l, name)
 }

@@ -1,11 +1,17 @@
 -- Where a line's names stand.
-use Prim.Native.Nat.{ℕ, _+_, _*_, _/_, _<_}
+use Prim.Native.Nat.{ℕ, _+_, _*_, _/_, _≤_, _<_}
 use native.Mathlib.Nat.{not-suc-le-zero}
 use native.Mathlib.Omega.{arith}
-use Rattle.chip.specs.Tables.{names, size}
+use mathlib.Core.Path.{_≡_}
+use mathlib.Core.Bool.{true}
+use mathlib.Core.List.{List}
+use lib.Dec.{lit<}
+use Rattle.chip.specs.State.{vramSize, masked}
+use Rattle.chip.specs.Tables.{names, patterns, colours, size}
+use Rattle.chip.proofs.Laws.Tables.{inside}
 use Rattle.chip.specs.declared.mode.Mode.{Mode}
 use Rattle.chip.specs.declared.mode.Mode.the-variants.{Blank, GraphicsI, GraphicsII, Multicolor, Text}
-use Rattle.planes.specs.Cells.{cellsIn, cellWidth, margin}
+use Rattle.planes.specs.Cells.{cellsIn, cellWidth, margin, nameAt, patternAt, coloursAt}
 
 -- a cell's name is one of its name table's
 pub name-within : (m : Mode) (l i : ℕ) → l < 192 → i < cellsIn m → l / 8 * cellsIn m + i < size m names
@@ -16,12 +22,33 @@ name-within Multicolor l i hl hi = omega arith
 name-within Text l i hl hi = omega arith
 
 -- no name table is longer than 960 bytes
-pub names-short : (m : Mode) → size m names < 961
-names-short Blank = omega arith
-names-short GraphicsI = omega arith
-names-short GraphicsII = omega arith
-names-short Multicolor = omega arith
-names-short Text = omega arith
+pub names-few : (m : Mode) → size m names ≤ 960
+names-few Blank = omega arith
+names-few GraphicsI = omega arith
+names-few GraphicsII = omega arith
+names-few Multicolor = omega arith
+names-few Text = omega arith
+
+-- Every address of a cell is below 16,384, in every mode.
+pub name-inside : (m : Mode) (r : List ℕ) → masked r ≡ true → (l : ℕ) → l < 192 → (i : ℕ) → i < cellsIn m → nameAt m r l i < vramSize
+unfolding nameAt
+name-inside m r ok l hl i hi = inside m names r ok (l / 8 * cellsIn m + i) (name-within m l i hl hi)
+
+pub pattern-inside : (m : Mode) (r : List ℕ) → masked r ≡ true → (l : ℕ) → l < 192 → (name : ℕ) → name < 256 → patternAt m r l name < vramSize
+unfolding patternAt
+pattern-inside Blank r ok l hl n hn = lit< tt
+pattern-inside GraphicsI r ok l hl n hn = inside GraphicsI patterns r ok _ (omega arith)
+pattern-inside GraphicsII r ok l hl n hn = inside GraphicsII patterns r ok _ (omega arith)
+pattern-inside Multicolor r ok l hl n hn = inside Multicolor patterns r ok _ (omega arith)
+pattern-inside Text r ok l hl n hn = inside Text patterns r ok _ (omega arith)
+
+pub colours-inside : (m : Mode) (r : List ℕ) → masked r ≡ true → (l : ℕ) → l < 192 → (name : ℕ) → name < 256 → coloursAt m r l name < vramSize
+unfolding coloursAt
+colours-inside Blank r ok l hl n hn = lit< tt
+colours-inside GraphicsI r ok l hl n hn = inside GraphicsI colours r ok _ (omega arith)
+colours-inside GraphicsII r ok l hl n hn = inside GraphicsII colours r ok _ (omega arith)
+colours-inside Multicolor r ok l hl n hn = lit< tt
+colours-inside Text r ok l hl n hn = lit< tt
 
 -- the columns of the cells end within the line
 pub columns-within : (m : Mode) → margin m + cellsIn m * cellWidth m < 257

@@ -1,71 +1,74 @@
+-- `shape_of` meets its contract.
+use Prim.Native.Nat.{_<_}
+use native.Mathlib.Omega.{arith}
 use Rattle.fetches.specs.Fetch.{value}
 use Rattle.planes.specs.Cells.{shapeOf}
+use Rattle.planes.proofs.Laws.Cells.{pattern-inside}
 use borrow.Author.Needs.{needs}
 use Rattle.planes.proofs.cell.shape_of.Statement.{statement}
 use Rattle.planes.proofs.cell.shape_of.Tie as tie
-use Rattle.planes.proofs.cell.shape_of.Reads as reads
-use Rattle.planes.proofs.cell.shape_of.Lts as lts
-use Rattle.planes.proofs.cell.graphics_i.Reads as graphics-i-reads
-use Rattle.planes.proofs.cell.graphics_ii.Reads as graphics-ii-reads
-use Rattle.planes.proofs.cell.multicolor.Reads as multicolor-reads
-use Rattle.planes.proofs.cell.text.Reads as text-reads
 
--- src/cell.rt:62:24
 enum-told : tie.Need-enum-told
 enum-told c = search needs
 
--- src/cell.rt:63:28
 enum-told-2 : tie.Need-enum-told-2
 enum-told-2 c = search needs
 
--- src/cell.rt:63:28
-graphics-i-requires : tie.Need-graphics-i-requires
-graphics-i-requires c κs = search needs
+pattern-and-colours-requires : tie.Need-pattern-and-colours-requires
+pattern-and-colours-requires c κs = search needs
 
--- src/cell.rt:64:29
 enum-told-3 : tie.Need-enum-told-3
 enum-told-3 c = search needs
 
--- src/cell.rt:64:29
-graphics-ii-requires : tie.Need-graphics-ii-requires
-graphics-ii-requires c κs = search needs
+pattern-and-colours-requires-2 : tie.Need-pattern-and-colours-requires-2
+pattern-and-colours-requires-2 c κs = search needs
 
--- src/cell.rt:65:29
 enum-told-4 : tie.Need-enum-told-4
 enum-told-4 c = search needs
 
--- src/cell.rt:65:29
-multicolor-requires : tie.Need-multicolor-requires
-multicolor-requires c κs = search needs
+pattern-at-requires : tie.Need-pattern-at-requires
+pattern-at-requires c κs = search needs
 
--- src/cell.rt:66:23
+shared-slice-read-colours : tie.Need-shared-slice-read-colours
+shared-slice-read-colours c =
+    let s = c .before .before .before .before .before in
+    let low : c .before .pattern-at .result < 16384 = rw (c .before .pattern-at .ensures) (pattern-inside (s .args .mode) (s .args .t2) (s .pre .0) (s .args .l) (s .pre .2) (s .args .name) (s .fits .name .fits)) in
+    omega arith
+
 enum-told-5 : tie.Need-enum-told-5
 enum-told-5 c = search needs
 
--- src/cell.rt:66:23
-text-requires : tie.Need-text-requires
-text-requires c κs = search needs
+pattern-at-requires-2 : tie.Need-pattern-at-requires-2
+pattern-at-requires-2 c κs = search needs
 
--- src/cell.rt:57:1
+shared-slice-read-pattern : tie.Need-shared-slice-read-pattern
+shared-slice-read-pattern c =
+    let s = c .before .before .before .before .before in
+    let low : c .before .pattern-at2 .result < 16384 = rw (c .before .pattern-at2 .ensures) (pattern-inside (s .args .mode) (s .args .t2) (s .pre .0) (s .args .l) (s .pre .2) (s .args .name) (s .fits .name .fits)) in
+    omega arith
+
+array-read-t19 : tie.Need-array-read-t19
+array-read-t19 c = search needs
+
 returns : tie.Need-returns
 unfolding value shapeOf
 returns c = rw (c .enum-told .given .1)
 
--- src/cell.rt:57:1
 returns-2 : tie.Need-returns-2
-returns-2 c = rw (c .before .enum-told2 .given .1) (c .graphics-i .ensures)
+unfolding value shapeOf
+returns-2 c = rw (c .before .enum-told2 .given .1) (rw (c .before .enum-told2 .given .1) at (c .pattern-and-colours .ensures))
 
--- src/cell.rt:57:1
 returns-3 : tie.Need-returns-3
-returns-3 c = rw (c .before .enum-told3 .given .1) (c .graphics-ii .ensures)
+unfolding value shapeOf
+returns-3 c = rw (c .before .enum-told3 .given .1) (rw (c .before .enum-told3 .given .1) at (c .pattern-and-colours2 .ensures))
 
--- src/cell.rt:57:1
 returns-4 : tie.Need-returns-4
-returns-4 c = rw (c .before .enum-told4 .given .1) (c .multicolor .ensures)
+unfolding value shapeOf
+returns-4 c = rw (c .before .pattern-at .ensures, c .before .before .enum-told4 .given .1)
 
--- src/cell.rt:57:1
 returns-5 : tie.Need-returns-5
-returns-5 c = rw (c .before .enum-told5 .given .1) (c .text .ensures)
+unfolding value shapeOf
+returns-5 c = rw (c .before .pattern-at2 .ensures, c .before .before .enum-told5 .given .1)
 
 pub shape-of-spec : {M : Type 1} → statement M
 shape-of-spec =
@@ -73,13 +76,16 @@ shape-of-spec =
     (tie.spec
     enum-told
     enum-told-2
-    graphics-i-requires
+    pattern-and-colours-requires
     enum-told-3
-    graphics-ii-requires
+    pattern-and-colours-requires-2
     enum-told-4
-    multicolor-requires
+    pattern-at-requires
+    shared-slice-read-colours
     enum-told-5
-    text-requires
+    pattern-at-requires-2
+    shared-slice-read-pattern
+    array-read-t19
     returns
     returns-2
     returns-3

@@ -1,3 +1,4 @@
+-- `draw_plane` meets its contract.
 use Prim.Native.Nat.{ℕ, _+_, _*_, _-_, _≤_, _<_, zero-le}
 use native.Mathlib.Nat.{zero-mul, add-zero, suc-mul}
 use native.Mathlib.Numerals.{add-one}
@@ -11,15 +12,6 @@ use Rattle.planes.proofs.Laws.Painted.{Shown}
 use Rattle.planes.proofs.Laws.Plane.{colour, shown-none, shown-cell, shown-plane}
 use Rattle.planes.proofs.plane.draw_plane.Statement.{statement}
 use Rattle.planes.proofs.plane.draw_plane.Tie as tie
-use Rattle.planes.proofs.plane.draw_plane.Reads as reads
-use Rattle.planes.proofs.plane.draw_plane.Lts as lts
-use Rattle.chip.proofs.fill.Reads as fill-reads
-use Rattle.planes.proofs.cell.cell_of.Reads as cell-of-reads
-use Rattle.planes.proofs.cell.cells_in.Reads as cells-in-reads
-use Rattle.planes.proofs.pixel.rear_of.Reads as rear-of-reads
-use Rattle.planes.proofs.plane.cell_width.Reads as cell-width-reads
-use Rattle.planes.proofs.plane.margin_of.Reads as margin-of-reads
-use Rattle.planes.proofs.plane.show_cell.Reads as show-cell-reads
 
 abbrev Inv-loop : tie.InvT-loop
 Inv-loop mode r vram l line₀ behind cells width at₀ i₀ line at i = (i ≤ cellsIn mode) × (at ≡ margin mode + i * cellWidth mode) × Shown line (colour mode r l vram) (rear r) at
@@ -35,7 +27,6 @@ Start c = c .before .before .before .before .before .before .before .before .bef
 more : (c : tie.In-loop Inv-loop μ-loop) → c .before .loop .i < cellsIn (Start (c .before .before) .args .mode)
 more c = rw (c .before .before .before .before .cells-in .ensures) at (c .loop-test .taken)
 
--- src/plane.rt:62:9
 width : (c : tie.In-loop Inv-loop μ-loop) → c .before .before .before .cell-width .result ≡ cellWidth (Start (c .before .before) .args .mode)
 width c = c .before .before .before .cell-width .ensures
 
@@ -45,23 +36,18 @@ room c = rw (width c, c .before .loop .inv .1) (run-within (Start (c .before .be
 rear-of-requires : tie.Need-rear-of-requires Inv-loop μ-loop
 rear-of-requires c κs = search needs
 
--- src/plane.rt:63:5
 fill-requires : tie.Need-fill-requires Inv-loop μ-loop
 fill-requires c κs = search needs
 
--- src/plane.rt:64:9
 cells-in-requires : tie.Need-cells-in-requires Inv-loop μ-loop
 cells-in-requires c κs = search needs
 
--- src/plane.rt:65:9
 cell-width-requires : tie.Need-cell-width-requires Inv-loop μ-loop
 cell-width-requires c κs = search needs
 
--- src/plane.rt:66:9
 margin-of-requires : tie.Need-margin-of-requires Inv-loop μ-loop
 margin-of-requires c κs = search needs
 
--- src/plane.rt:68:5
 loop-holds : tie.Need-loop-holds Inv-loop μ-loop
 loop-holds c =
     let f = c .before .before .before .before .before in
@@ -69,31 +55,25 @@ loop-holds c =
     let filled = rw (f .before .before .rear-of .ensures, Start c .pre .3) at (f .fill .ensures) in
     (zero-le, rw (zero-mul, add-zero) (c .margin-of .ensures), rw (c .margin-of .ensures) (shown-none (a .mode) (a .r) (a .l) (a .vram .now) filled))
 
--- src/plane.rt:69:13
 cell-of-requires : tie.Need-cell-of-requires Inv-loop μ-loop
 cell-of-requires c κs =
     let a = Start (c .before .before) in
     (a .pre .0, a .pre .1, a .pre .2, more c)
 
--- src/plane.rt:70:9
 show-cell-requires : tie.Need-show-cell-requires Inv-loop μ-loop
 show-cell-requires c κs =
     let i = c .before .before in
     (rw (i .before .loop .inv .2 .long) (omega (arith, room i)), rw (width i) (omega (arith, width-small (Start (i .before .before) .args .mode))))
 
--- src/plane.rt:71:9
 add-at : tie.Need-add-at Inv-loop μ-loop
 add-at c = omega (arith, room (c .before .before .before .before .before))
 
--- src/plane.rt:72:9
 add-i : tie.Need-add-i Inv-loop μ-loop
 add-i c = omega (arith, more (c .before .before .before .before .before), cells-few (Start (c .before .before .before .before .before .before .before) .args .mode))
 
--- src/plane.rt:68:5
 loop-less : tie.Need-loop-less Inv-loop μ-loop
 loop-less c = omega (arith, more (c .before .before .before .before .before))
 
--- src/plane.rt:68:5
 loop-again : tie.Need-loop-again Inv-loop μ-loop
 loop-again c =
     let i = c .before .before .before .before .before in
@@ -106,11 +86,9 @@ loop-again c =
       rw (width i) (shown-cell (a .mode) (a .r) (a .l) (a .vram .now) (h .i) (more i) (h .inv .1) (h .inv .2) painted),
     )
 
--- src/plane.rt:58:1
 same-length : tie.Need-same-length Inv-loop μ-loop
 same-length c = omega (arith, c .before .loop .inv .2 .long)
 
--- src/plane.rt:58:1
 returns : tie.Need-returns Inv-loop μ-loop
 returns c =
     let a = Start (c .before .before) .args in

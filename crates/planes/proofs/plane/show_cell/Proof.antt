@@ -1,3 +1,4 @@
+-- `show_cell` meets its contract.
 use Prim.Native.Nat.{_-_, _/_, _%_}
 use Rattle.chip.specs.Bits.{bit}
 use Rattle.planes.proofs.Laws.Painted.{painted-as}
@@ -5,28 +6,19 @@ use Rattle.planes.proofs.Laws.Pixel.{over-cond}
 use borrow.Author.Needs.{needs}
 use Rattle.planes.proofs.plane.show_cell.Statement.{statement}
 use Rattle.planes.proofs.plane.show_cell.Tie as tie
-use Rattle.planes.proofs.plane.show_cell.Reads as reads
-use Rattle.planes.proofs.plane.show_cell.Lts as lts
-use Rattle.planes.proofs.paint.paint_cell.Reads as paint-cell-reads
-use Rattle.planes.proofs.pixel.over.Reads as over-reads
 
--- src/plane.rt:52:9
 over-requires : tie.Need-over-requires
 over-requires c κs = search needs
 
--- src/plane.rt:53:9
 over-requires-2 : tie.Need-over-requires-2
 over-requires-2 c κs = search needs
 
--- src/plane.rt:54:5
 paint-cell-requires : tie.Need-paint-cell-requires
 paint-cell-requires c κs = search needs
 
--- src/plane.rt:48:1
 same-length : tie.Need-same-length
 same-length c = search needs
 
--- src/plane.rt:48:1
 returns : tie.Need-returns
 returns c =
     let p = c .before .before in
