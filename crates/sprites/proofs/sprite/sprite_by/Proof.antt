@@ -1,0 +1,25 @@
+use borrow.Author.Needs.{needs}
+use Rattle.sprites.proofs.sprite.sprite_by.Statement.{statement}
+use Rattle.sprites.proofs.sprite.sprite_by.Tie as tie
+use Rattle.sprites.proofs.sprite.sprite_by.Reads as reads
+use Rattle.sprites.proofs.sprite.sprite_by.Lts as lts
+use Rattle.sprites.proofs.sprite.first_of.Reads as first-of-reads
+
+-- src/sprite.rt:59:9
+first-of-requires : tie.Need-first-of-requires
+first-of-requires c κs = search needs
+
+-- src/sprite.rt:63:15
+mul-t8 : tie.Need-mul-t8
+mul-t8 c = search needs
+
+-- src/sprite.rt:63:15
+add-t10 : tie.Need-add-t10
+add-t10 c = search needs
+
+-- src/sprite.rt:56:1
+returns : tie.Need-returns
+returns c = rw (c .first-of .ensures)
+
+pub sprite-by-spec : {M : Type 1} → statement M
+sprite-by-spec = tie.close (tie.spec first-of-requires mul-t8 add-t10 returns)

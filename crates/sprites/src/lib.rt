@@ -1,0 +1,9 @@
+// The sprites of a line: the scan of the attribute table, the pixels of the drawn ones, and their coincidence.
+mod scan;
+mod shape;
+mod sprite;
+
+pub use scan::Ended;
+pub use scan::Scan;
+pub use scan::scan_of;
+pub use sprite::Sprite;
