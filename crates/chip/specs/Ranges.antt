@@ -8,6 +8,6 @@ allBelow zero p = true
 allBelow (suc n) p = allBelow n p && p n
 
 -- whether p holds of one of them
-abbrev pub anyBelow : ℕ → (ℕ → Bool) → Bool
+unfoldable pub anyBelow : ℕ → (ℕ → Bool) → Bool
 anyBelow zero p = false
 anyBelow (suc n) p = anyBelow n p || p n

@@ -1,3 +1,5 @@
 -- Laws about the definitions of specs/.
 pub mod Bounds
 pub mod Scan
+pub mod Columns
+pub mod Paint

@@ -1,4 +1,6 @@
 // The sprites of a line: the scan of the attribute table, the pixels of the drawn ones, and their coincidence.
+mod columns;
+mod paint;
 mod scan;
 mod shape;
 mod sprite;

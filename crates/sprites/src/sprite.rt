@@ -16,7 +16,7 @@ use chip::bit;
 
 pub struct Sprite {
     // The first column, counted from 32 left of the screen.
-    pub first: usize,
+    pub first: u16,
     pub colour: u8,
     // A row of the pattern, its left half above its right half.
     pub bits: u16,
@@ -47,10 +47,10 @@ pub fn pattern_at(r: [u8; 8], l: u8, y: u8, name: u8) -> usize
 }
 
 // The first column, from 32 left of the screen.
-fn first_of(x: u8, c: u8) -> usize
+fn first_of(x: u8, c: u8) -> u16
     ensures { λ n. ⌜ n ≡ scan.firstOf x c ⌝ }
 {
-    if bit(c, 7) { x as usize } else { x as usize + 32 }
+    if bit(c, 7) { x as u16 } else { x as u16 + 32 }
 }
 
 fn sprite_by(x: u8, c: u8, left: u8, right: u8) -> Sprite

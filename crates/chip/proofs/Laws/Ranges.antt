@@ -1,10 +1,10 @@
 -- A test of every number below a bound.
 use Prim.Native.Nat.{ℕ, zero, suc, _<_}
-use native.Mathlib.Nat.{not-suc-le-zero, le-of-suc-le-suc, eq-or-lt-of-le}
+use native.Mathlib.Nat.{not-suc-le-zero, le-of-suc-le-suc, eq-or-lt-of-le, le-step, lt-suc-self}
 use mathlib.Core.Path.{_≡_, refl, ap, ap₂, sym, subst, _∙_}
 use mathlib.Core.Bool.{Bool, true, false, _&&_, _||_}
 use mathlib.Core.Logic.{⊎-elim}
-use Rattle.chip.specs.Ranges.{allBelow}
+use Rattle.chip.specs.Ranges.{allBelow, anyBelow}
 
 pub and-false : (a : Bool) → (a && false) ≡ false
 and-false true = refl
@@ -13,6 +13,10 @@ and-false false = refl
 pub or-false : (a : Bool) → (a || false) ≡ a
 or-false true = refl
 or-false false = refl
+
+pub or-true : (a : Bool) → (a || true) ≡ true
+or-true true = refl
+or-true false = refl
 
 pub and-left : (a b : Bool) → (a && b) ≡ true → a ≡ true
 and-left true b e = refl
@@ -42,3 +46,37 @@ each-holds (suc n) p e k h =
     (λ same. subst (λ (m : ℕ). p m ≡ true) (sym same) (and-right (allBelow n p) (p n) e))
     (λ below. each-holds n p (and-left (allBelow n p) (p n) e) k below)
     (eq-or-lt-of-le (le-of-suc-le-suc h))
+
+-- one number at which the test holds is enough
+pub one-holds : (n : ℕ) (p : ℕ → Bool) (k : ℕ) → k < n → p k ≡ true → anyBelow n p ≡ true
+unfolding anyBelow
+one-holds zero p k h e = absurd (not-suc-le-zero h)
+one-holds (suc n) p k h e =
+    ⊎-elim
+    (λ same. ap (λ (b : Bool). anyBelow n p || b) (subst (λ (m : ℕ). p m ≡ true) same e) ∙ or-true (anyBelow n p))
+    (λ below. ap (λ (b : Bool). b || p n) (one-holds n p k below e))
+    (eq-or-lt-of-le (le-of-suc-le-suc h))
+
+pub none-holds : (n : ℕ) (p : ℕ → Bool) → ((k : ℕ) → k < n → p k ≡ false) → anyBelow n p ≡ false
+unfolding anyBelow
+none-holds zero p h = refl
+none-holds (suc n) p h = ap₂ _||_ (none-holds n p (λ k below. h k (le-step below))) (h n (lt-suc-self n))
+
+-- two tests that agree below the bound
+pub any-same : (n : ℕ) (p q : ℕ → Bool) → ((k : ℕ) → k < n → p k ≡ q k) → anyBelow n p ≡ anyBelow n q
+unfolding anyBelow
+any-same zero p q h = refl
+any-same (suc n) p q h = ap₂ _||_ (any-same n p q (λ k below. h k (le-step below))) (h n (lt-suc-self n))
+
+-- one test or another
+pub any-or : (n : ℕ) (p q : ℕ → Bool) → anyBelow n (λ k. p k || q k) ≡ (anyBelow n p || anyBelow n q)
+unfolding anyBelow
+any-or zero p q = refl
+any-or (suc n) p q = ap (λ (b : Bool). b || (p n || q n)) (any-or n p q) ∙ regroup (anyBelow n p) (anyBelow n q) (p n) (q n)
+  where
+    regroup : (a b c d : Bool) → (a || b || (c || d)) ≡ (a || c || (b || d))
+    regroup true b c d = refl
+    regroup false true true d = refl
+    regroup false true false d = refl
+    regroup false false true d = refl
+    regroup false false false d = refl

@@ -1,0 +1,56 @@
+-- A line that a loop goes over column by column, from 32 left of the screen.
+use Prim.Native.Nat.{ℕ, _+_, _-_, _≤_, _<_, max}
+use native.Mathlib.Decide.{decLt}
+use native.Mathlib.Omega.{arith}
+use mathlib.Core.Path.{_≡_, refl, sym, ap, ap₂, _∙_}
+use mathlib.Core.Bool.{Bool, false}
+use mathlib.Core.List.{List}
+use lib.ListN.{length, getD, set, length-set}
+use lib.Seq.{getD-set-same, getD-set-other}
+use Rattle.chip.specs.Lists.{tabulate}
+use Rattle.chip.proofs.Laws.Lists.{tabulated}
+use Rattle.sprites.specs.Pixels.{visible}
+
+-- The visible columns before c became f's, and the others are as they were.
+pub record Swept (new old : List ℕ) (f : ℕ → ℕ → ℕ) (c : ℕ) : Type 0 where
+  pub long : length new ≡ 256
+  pub done : (x : ℕ) → x < 256 → visible x < c → getD new x 0 ≡ f x (getD old x 0)
+  pub rest : (x : ℕ) → x < 256 → c ≤ visible x → getD new x 0 ≡ getD old x 0
+
+pub swept-none : {old : List ℕ} {f : ℕ → ℕ → ℕ} {c : ℕ} → length old ≡ 256 → ((x : ℕ) → visible x < c → (o : ℕ) → f x o ≡ o) → Swept old old f c
+swept-none {old} e keeps = record { long = e; done = λ x h below. sym (keeps x below (getD old x 0)); rest = λ x h above. refl }
+
+pub swept-more : {new old : List ℕ} {f : ℕ → ℕ → ℕ} {c : ℕ} (v : ℕ) → 32 ≤ c → c < 288 → v ≡ f (c - 32) (getD new (c - 32) 0) → Swept new old f c → Swept (set new (c - 32) v) old f (c + 1)
+swept-more {new} {old} {f} {c} v low high e s =
+    record {
+      long = length-set new (c - 32) v ∙ s .long;
+      done = λ x h below. by x h below (decLt (visible x) c);
+      rest = λ x h above. getD-set-other new (c - 32) x v 0 (omega arith) ∙ s .rest x h (omega arith)
+    }
+  where
+    by : (x : ℕ) → x < 256 → visible x < c + 1 → Dec (visible x < c) → getD (set new (c - 32) v) x 0 ≡ f x (getD old x 0)
+    by x h below (yes before) = getD-set-other new (c - 32) x v 0 (omega arith) ∙ s .done x h before
+    by x h below (no here) =
+        let same : c - 32 ≡ x = omega arith in
+        let room : x < length new = omega (arith, s .long) in
+        rw same (getD-set-same new x v 0 room ∙ rw same at e ∙ ap (f x) (s .rest x h (omega arith)))
+
+pub swept-all : {new old : List ℕ} {f : ℕ → ℕ → ℕ} {c : ℕ} → ((x : ℕ) → x < 256 → c ≤ visible x → (o : ℕ) → f x o ≡ o) → Swept new old f c → new ≡ tabulate 256 (λ x. f x (getD old x 0))
+swept-all {new} {old} {f} {c} keeps s = tabulated (s .long) (λ x h. by x h (decLt (visible x) c))
+  where
+    by : (x : ℕ) → x < 256 → Dec (visible x < c) → getD new x 0 ≡ f x (getD old x 0)
+    by x h (yes before) = s .done x h before
+    by x h (no after) =
+        let above : c ≤ visible x = omega arith in
+        s .rest x h above ∙ sym (keeps x h above (getD old x 0))
+
+-- a test that fails at every visible column before c, and at c
+pub none-yet : (p : ℕ → ℕ → Bool) (c : ℕ) → 32 ≤ c → ((x : ℕ) → visible x < c → p (visible x) x ≡ false) → p c (c - 32) ≡ false → (x : ℕ) → visible x < c + 1 → p (visible x) x ≡ false
+none-yet p c low before here x below = by (decLt (visible x) c)
+  where
+    by : Dec (visible x < c) → p (visible x) x ≡ false
+    by (yes earlier) = before x earlier
+    by (no now) =
+        let column : visible x ≡ c = omega arith in
+        let place : x ≡ c - 32 = omega arith in
+        ap₂ p column place ∙ here

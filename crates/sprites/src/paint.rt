@@ -1,0 +1,51 @@
+// Painting a sprite over a line, and looking for set bits that meet.
+ghost use mathlib.Core.Path.{_≡_};
+ghost use mathlib.Core.Bool.{cond, _&&_};
+ghost use lib.Dec.{eqb};
+ghost use lib.ListN.{length, getD};
+ghost use Rattle.chip.specs.Lists.{tabulate};
+ghost use Rattle.chip.specs.Ranges.{anyBelow};
+ghost use Rattle.planes.specs.Pixel as pixel;
+ghost use Rattle.sprites.specs.Pixels.{visible, hits};
+use crate::columns::bit_at;
+use crate::columns::end_column;
+use crate::columns::first_column;
+use crate::sprite::Sprite;
+use planes::over;
+
+// A colour where the bit is set, and 0 where it is not.
+fn front(set: bool, colour: u8) -> u8
+    ensures { λ c. ⌜ c ≡ cond set colour 0 ⌝ }
+{
+    if set { colour } else { 0 }
+}
+
+// Each column where the sprite has a set bit takes the colour, unless that is 0.
+pub fn paint_sprite(line: &mut [u8], r: [u8; 8], s: Sprite, colour: u8)
+    requires { ⌜ length (now line) ≡ 256 ⌝ }
+    ensures { λ _. ⌜ now (line .exit) ≡ tabulate 256 (λ x. pixel.over (cond (hits r s (visible x)) colour 0) (getD (now (line .entry)) x 0)) ⌝ }
+{
+    let end = end_column(r, s);
+    let mut c = first_column(s);
+    while c < end {
+        let x = c - 32;
+        line[x] = over(front(bit_at(r, s, c), colour), line[x]);
+        c += 1;
+    }
+}
+
+// Whether the sprite has a set bit at a column that is taken (1).
+pub fn meets(taken: &[u8], r: [u8; 8], s: Sprite) -> bool
+    requires { ⌜ length (now taken) ≡ 256 ⌝ }
+    ensures { λ b. ⌜ b ≡ anyBelow 256 (λ x. hits r s (visible x) && eqb (getD (now (taken .entry)) x 0) 1) ⌝ }
+{
+    let end = end_column(r, s);
+    let mut c = first_column(s);
+    while c < end {
+        if bit_at(r, s, c) & (taken[c - 32] == 1) {
+            return true;
+        }
+        c += 1;
+    }
+    false
+}
