@@ -3,3 +3,4 @@ pub mod Bounds
 pub mod Scan
 pub mod Columns
 pub mod Paint
+pub mod Draw

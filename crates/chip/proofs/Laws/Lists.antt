@@ -1,7 +1,7 @@
 -- Lists by their elements.
-use Prim.Native.Nat.{ℕ, zero, suc, _+_, _≤_, _<_}
-use native.Mathlib.Nat.{not-suc-le-zero, le-of-suc-le-suc, ne-of-lt}
-use mathlib.Core.Path.{_≡_, refl, ap, sym, _∙_}
+use Prim.Native.Nat.{ℕ, zero, suc, _+_, _≤_, _<_, suc-le-suc}
+use native.Mathlib.Nat.{not-suc-le-zero, le-of-suc-le-suc, ne-of-lt, zero-lt-suc}
+use mathlib.Core.Path.{_≡_, refl, ap, ap₂, sym, _∙_}
 use mathlib.Core.List.{List, [], _∷_, _++_}
 use Rattle.chip.specs.Lists.{tabulate}
 use lib.ListN.{length, getD, take, set}
@@ -29,6 +29,12 @@ unfolding tabulate
 getD-tabulate zero f i h = absurd (not-suc-le-zero h)
 getD-tabulate (suc n) f zero h = refl
 getD-tabulate (suc n) f (suc i) h = getD-tabulate n (λ j. f (suc j)) i (le-of-suc-le-suc h)
+
+-- two tables with the same entries
+pub tabulate-same : (n : ℕ) {f g : ℕ → ℕ} → ((i : ℕ) → i < n → f i ≡ g i) → tabulate n f ≡ tabulate n g
+unfolding tabulate
+tabulate-same zero h = refl
+tabulate-same (suc n) h = ap₂ (λ (x : ℕ) (l : List ℕ). x ∷ l) (h 0 (zero-lt-suc n)) (tabulate-same n (λ i below. h (suc i) (suc-le-suc below)))
 
 -- a list of n elements that are f's
 pub tabulated : {l : List ℕ} {n : ℕ} {f : ℕ → ℕ} → length l ≡ n → ((i : ℕ) → i < n → getD l i 0 ≡ f i) → l ≡ tabulate n f

@@ -101,6 +101,7 @@ module _ {r : List ℕ} {l : ℕ} {vram : List ℕ} {sprites : List Sprite} {dra
   going-end e stop =
       let whole = g .all ∙ ap (after (take drawn sprites)) stop in
       record {
+        room = g .room;
         few = g .few;
         sprites = sym (ap (λ (f : Found). f .sprites) whole ∙ append-nil (take drawn sprites));
         ended = sym (ap (λ (f : Found). f .ended) whole)

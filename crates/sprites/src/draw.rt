@@ -1,0 +1,40 @@
+// Drawing the sprites that a scan found.
+ghost use mathlib.Core.Path.{_≡_};
+ghost use Prim.Native.Nat.{_≤_};
+ghost use lib.ListN.{length, getD, take, replicate};
+ghost use Rattle.chip.specs.Lists.{tabulate};
+ghost use Rattle.planes.specs.Pixel as pixel;
+ghost use Rattle.sprites.specs.Pixels.{visible, coloursAt, coincidence};
+use crate::paint::meets;
+use crate::paint::paint_sprite;
+use crate::scan::Scan;
+
+type Columns = [u8; 256];
+
+// No column is taken.
+fn no_columns() -> Columns
+    ensures { λ c. ⌜ c ≡ replicate 256 0 ⌝ }
+{
+    [0; 256]
+}
+
+// Paints the found sprites over a line, the highest number first, so that a lower one comes to lie in front. Answers
+// whether two of them coincide.
+pub fn draw_sprites(line: &mut [u8], r: [u8; 8], scan: Scan) -> bool
+    requires { ⌜ (length (now line) ≡ 256) × (length (scan .sprites) ≡ 4) × (scan .drawn ≤ 4) ⌝ }
+    ensures { λ _. ⌜ now (line .exit) ≡ tabulate 256 (λ x. pixel.firstOf (coloursAt r (take (scan .drawn) (scan .sprites)) (visible x)) (getD (now (line .entry)) x 0)) ⌝ }
+    ensures { λ b. ⌜ b ≡ coincidence r (take (scan .drawn) (scan .sprites)) ⌝ }
+{
+    let sprites = scan.sprites;
+    let mut taken = no_columns();
+    let mut met = false;
+    let mut k = scan.drawn;
+    while 0 < k {
+        k -= 1;
+        let s = sprites[k];
+        met = meets(&taken, r, s) | met;
+        paint_sprite(line, r, s, s.colour);
+        paint_sprite(&mut taken, r, s, 1);
+    }
+    met
+}
