@@ -4,3 +4,4 @@ pub mod Scan
 pub mod Columns
 pub mod Paint
 pub mod Draw
+pub mod Due

@@ -33,12 +33,12 @@ spriteBy x c left right = record { first = firstOf x c; colour = c % 16; bits = 
 unfoldable pub spriteOf : List ℕ → ℕ → ℕ → ℕ → Fetch Sprite
 spriteOf r l n y =
     fetch (attributeAt r n 1) λ x.
-      fetch (attributeAt r n 2) λ name.
-        fetch (attributeAt r n 3) λ c.
-          fetch (patternAt r l y name) λ left.
-            cond (largeSprites r)
-            (fetch (patternAt r l y name + 16) λ right. answer (spriteBy x c left right))
-            (answer (spriteBy x c left 0))
+    fetch (attributeAt r n 2) λ name.
+    fetch (attributeAt r n 3) λ c.
+    fetch (patternAt r l y name) λ left.
+    cond (largeSprites r)
+    (fetch (patternAt r l y name + 16) λ right. answer (spriteBy x c left right))
+    (answer (spriteBy x c left 0))
 
 -- What a scan finds: the sprites to draw, lowest number first, and how it ended.
 pub record Found : Type 0 where

@@ -1,5 +1,5 @@
 -- A scan's result, as code holds it: room for four sprites, and how many of them are there.
-use Prim.Native.Nat.{ℕ, _≤_}
+use Prim.Native.Nat.{_≤_}
 use mathlib.Core.Path.{_≡_}
 use lib.ListN.{length, take}
 use Rattle.sprites.specs.Scan.{Found}

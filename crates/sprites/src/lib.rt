@@ -1,12 +1,14 @@
 // The sprites of a line: the scan of the attribute table, the pixels of the drawn ones, and their coincidence.
 mod columns;
 mod draw;
+mod due;
 mod paint;
 mod scan;
 mod shape;
 mod sprite;
 
 pub use draw::draw_sprites;
+pub use due::scan_marked;
 pub use scan::Ended;
 pub use scan::Scan;
 pub use scan::scan_of;

@@ -9,7 +9,7 @@ use lib.Dec.{lit<}
 use Rattle.chip.specs.Modes.{largeSprites, magnified}
 use Rattle.chip.specs.State.{vramSize, masked}
 use Rattle.chip.proofs.Laws.Tables.{at-most-mask}
-use Rattle.sprites.specs.Shape.{side, scaled, rowOffset, covers}
+use Rattle.sprites.specs.Shape.{scaled, rowOffset, covers}
 use Rattle.sprites.specs.Scan.{attributeAt, patternAt}
 
 pub attribute-inside : (r : List ℕ) → masked r ≡ true → (n k : ℕ) → n < 32 → k < 4 → attributeAt r n k < vramSize
@@ -30,11 +30,12 @@ name-small false name h = omega arith
 pub pattern-inside : (r : List ℕ) → masked r ≡ true → (l y name : ℕ) → covers r l y ≡ true → name < 256 → patternAt r l y name + cond (largeSprites r) 16 0 < vramSize
 unfolding patternAt
 pattern-inside r ok l y name cov hn =
-    omega
-    (arith,
-    at-most-mask r ok 6 (lit< tt),
-    name-small (largeSprites r) name hn,
-    row-small (largeSprites r) (magnified r) (rowOffset l y) (ltb-true _ _ cov))
+    omega (
+      arith,
+      at-most-mask r ok 6 (lit< tt),
+      name-small (largeSprites r) name hn,
+      row-small (largeSprites r) (magnified r) (rowOffset l y) (ltb-true _ _ cov),
+    )
 
 pub scaled-le : (m : Bool) (d : ℕ) → scaled m d ≤ d
 scaled-le true d = omega arith

@@ -28,7 +28,7 @@ over-none {r} {old} e t =
     record {
       shown = tabulated e (λ i h. refl);
       held = t ∙ tabulated (length-replicate {A = ℕ} 256 0) (λ i h. getD-replicate 256 i 0 0 h);
-      found = sym (none-holds 256 (λ x. false) (λ k h. refl))
+      found = sym (none-holds 256 (λ x. false) (λ k h. refl));
     }
 
 -- one taken column more
@@ -55,10 +55,10 @@ module _ {r : List ℕ} {l : List Sprite} {old line taken : List ℕ} {met : Boo
         shown = en ∙ tabulate-same 256 (λ x h. ap (over (cond (hits r s (visible x)) (s .colour) 0)) (line-at x h));
         held = et ∙ tabulate-same 256 (λ x h. ap (over (cond (hits r s (visible x)) 1 0)) (taken-at x h) ∙ taken-or (hits r s (visible x)) (anyHits r l (visible x)));
         found =
-          ap₂ _||_
-          (em ∙ any-same 256 _ _ (λ x h. ap (λ (n : ℕ). hits r s (visible x) && eqb n 1) (taken-at x h) ∙ ap (λ (b : Bool). hits r s (visible x) && b) (is-taken (anyHits r l (visible x)))))
-          (o .found)
-          ∙ sym (any-or 256 (λ x. hits r s (visible x) && anyHits r l (visible x)) (λ x. meet r l (visible x)))
+            ap₂ _||_
+            (em ∙ any-same 256 _ _ (λ x h. ap (λ (n : ℕ). hits r s (visible x) && eqb n 1) (taken-at x h) ∙ ap (λ (b : Bool). hits r s (visible x) && b) (is-taken (anyHits r l (visible x)))))
+            (o .found)
+            ∙ sym (any-or 256 (λ x. hits r s (visible x) && anyHits r l (visible x)) (λ x. meet r l (visible x)));
       }
     where
       line-at : (x : ℕ) → x < 256 → getD line x 0 ≡ firstOf (coloursAt r l (visible x)) (getD old x 0)

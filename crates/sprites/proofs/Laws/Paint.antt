@@ -1,5 +1,5 @@
 -- A line that a loop goes over column by column, from 32 left of the screen.
-use Prim.Native.Nat.{ℕ, _+_, _-_, _≤_, _<_, max}
+use Prim.Native.Nat.{ℕ, _+_, _-_, _≤_, _<_}
 use native.Mathlib.Decide.{decLt}
 use native.Mathlib.Omega.{arith}
 use mathlib.Core.Path.{_≡_, refl, sym, ap, ap₂, _∙_}
@@ -25,7 +25,7 @@ swept-more {new} {old} {f} {c} v low high e s =
     record {
       long = length-set new (c - 32) v ∙ s .long;
       done = λ x h below. by x h below (decLt (visible x) c);
-      rest = λ x h above. getD-set-other new (c - 32) x v 0 (omega arith) ∙ s .rest x h (omega arith)
+      rest = λ x h above. getD-set-other new (c - 32) x v 0 (omega arith) ∙ s .rest x h (omega arith);
     }
   where
     by : (x : ℕ) → x < 256 → visible x < c + 1 → Dec (visible x < c) → getD (set new (c - 32) v) x 0 ≡ f x (getD old x 0)

@@ -3,13 +3,12 @@ use Prim.Native.Nat.{ℕ, suc, _+_, _-_, _≤_, _<_}
 use native.Mathlib.Numerals.{add-one}
 use native.Mathlib.Omega.{arith}
 use mathlib.Core.Path.{_≡_, refl, sym, ap, _∙_}
-use mathlib.Core.Bool.{Bool, true, false, cond}
+use mathlib.Core.Bool.{true, false}
 use mathlib.Core.List.{List, [], _∷_, _++_, append-nil, append-assoc}
 use borrow.Author.Tests.{eq-eqb, ne-eqb}
-use lib.Dec.{eqb}
 use lib.ListN.{length, getD, take, set, length-set}
 use lib.Seq.{take-suc-set}
-use Rattle.fetches.specs.Fetch.{Fetch, answer, value, followed}
+use Rattle.fetches.specs.Fetch.{answer, value, followed}
 use Rattle.fetches.proofs.Laws.{value-followed}
 use Rattle.sprites.specs.Shape.{covers}
 use Rattle.sprites.specs.Scan.{attributeAt, spriteOf, Found, found, seen, scanFrom, scanOf}
@@ -90,10 +89,10 @@ module _ {r : List ℕ} {l : ℕ} {vram : List ℕ} {sprites : List Sprite} {dra
         up = omega arith;
         room = length-set sprites drawn s ∙ g .room;
         all =
-          g .all
-          ∙ ap (after (take drawn sprites)) e
-          ∙ sym (after-one (take drawn sprites) s (rest r l vram (n + 1) (drawn + 1)))
-          ∙ ap (λ (a : List Sprite). after a (rest r l vram (n + 1) (drawn + 1))) (sym (one-more sprites drawn s (rw (g .room) few)))
+            g .all
+            ∙ ap (after (take drawn sprites)) e
+            ∙ sym (after-one (take drawn sprites) s (rest r l vram (n + 1) (drawn + 1)))
+            ∙ ap (λ (a : List Sprite). after a (rest r l vram (n + 1) (drawn + 1))) (sym (one-more sprites drawn s (rw (g .room) few)));
       }
 
   -- the scan ends
@@ -104,5 +103,5 @@ module _ {r : List ℕ} {l : ℕ} {vram : List ℕ} {sprites : List Sprite} {dra
         room = g .room;
         few = g .few;
         sprites = sym (ap (λ (f : Found). f .sprites) whole ∙ append-nil (take drawn sprites));
-        ended = sym (ap (λ (f : Found). f .ended) whole)
+        ended = sym (ap (λ (f : Found). f .ended) whole);
       }

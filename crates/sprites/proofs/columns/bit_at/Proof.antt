@@ -1,45 +1,34 @@
+-- `bit_at` meets its contract.
 use native.Mathlib.Omega.{arith}
 use Rattle.sprites.proofs.Laws.Columns.{bit-small, hits-in}
 use borrow.Author.Needs.{needs}
 use Rattle.sprites.proofs.columns.bit_at.Statement.{statement}
 use Rattle.sprites.proofs.columns.bit_at.Tie as tie
-use Rattle.sprites.proofs.columns.bit_at.Reads as reads
-use Rattle.sprites.proofs.columns.bit_at.Lts as lts
-use Rattle.sprites.proofs.shape.is_magnified.Reads as is-magnified-reads
-use Rattle.sprites.proofs.shape.scaled.Reads as scaled-reads
 
--- src/columns.rt:32:20
 is-magnified-requires : tie.Need-is-magnified-requires
 is-magnified-requires c κs = search needs
 
--- src/columns.rt:32:41
 cast-scaled : tie.Need-cast-scaled
 cast-scaled c = search needs
 
--- src/columns.rt:32:37
 sub-scaled : tie.Need-sub-scaled
 sub-scaled c = search needs
 
--- src/columns.rt:32:9
 scaled-requires : tie.Need-scaled-requires
 scaled-requires c κs = search needs
 
--- src/columns.rt:33:17
 sub-result : tie.Need-sub-result
 sub-result c =
     let s = c .before .before .before in
     let small = rw (c .before .before .is-magnified .ensures) at (c .scaled .ensures) in
     omega (arith, small, bit-small (s .args .r) (s .args .s) (s .args .c) (s .pre .0) (s .pre .1))
 
--- src/columns.rt:33:16
 cast-result : tie.Need-cast-result
 cast-result c = search needs
 
--- src/columns.rt:33:6
 shr-result : tie.Need-shr-result
 shr-result c = search needs
 
--- src/columns.rt:28:1
 returns : tie.Need-returns
 returns c =
     let s = c .before .before .before .before in

@@ -1,16 +1,12 @@
-use Prim.Native.Nat.{ℕ, _-_, _≤_, _<_}
+-- `draw_sprites` meets its contract.
+use Prim.Native.Nat.{_-_, _≤_}
 use native.Mathlib.Omega.{arith}
-use mathlib.Core.Path.{_≡_, sym, _∙_}
+use mathlib.Core.Path.{_≡_, sym}
 use borrow.Author.Needs.{needs}
-use lib.ListN.{length, getD, take, drop}
+use lib.ListN.{getD, take, drop}
 use Rattle.sprites.proofs.Laws.Draw.{Over, over-none, over-one, one-lower, none-higher, noSprite, line-long, taken-long}
 use Rattle.sprites.proofs.draw.draw_sprites.Statement.{statement}
 use Rattle.sprites.proofs.draw.draw_sprites.Tie as tie
-use Rattle.sprites.proofs.draw.draw_sprites.Reads as reads
-use Rattle.sprites.proofs.draw.draw_sprites.Lts as lts
-use Rattle.sprites.proofs.draw.no_columns.Reads as no-columns-reads
-use Rattle.sprites.proofs.paint.meets.Reads as meets-reads
-use Rattle.sprites.proofs.paint.paint_sprite.Reads as paint-sprite-reads
 
 abbrev Inv-loop : tie.InvT-loop
 Inv-loop line₀ r sprites taken₀ met₀ k₀ line taken met k = (k ≤ k₀) × (k₀ ≤ 4) × Over r (drop k (take k₀ sprites)) line₀ line taken met
@@ -18,71 +14,58 @@ Inv-loop line₀ r sprites taken₀ met₀ k₀ line taken met k = (k ≤ k₀) 
 abbrev μ-loop : tie.MeasureT-loop
 μ-loop line₀ r sprites taken₀ met₀ k₀ line taken met k = k
 
--- src/draw.rt:29:21
 no-columns-requires : tie.Need-no-columns-requires Inv-loop μ-loop
 no-columns-requires c κs = search needs
 
--- src/draw.rt:32:5
 loop-holds : tie.Need-loop-holds Inv-loop μ-loop
 loop-holds c =
     let s = c .before .before .before in
     (omega arith, s .pre .2, rw (none-higher (s .args .scan .sprites) (s .args .scan .drawn) (omega (arith, s .pre .1, s .pre .2))) (over-none (s .pre .0) (c .no-columns .ensures)))
 
--- src/draw.rt:33:9
 sub-k : tie.Need-sub-k Inv-loop μ-loop
 sub-k c = omega arith
 
--- src/draw.rt:34:17
 mul-s : tie.Need-mul-s Inv-loop μ-loop
 mul-s c = omega arith
 
--- src/draw.rt:34:17
 array-copy-out-s : tie.Need-array-copy-out-s Inv-loop μ-loop
 array-copy-out-s c = omega arith
 
--- src/draw.rt:35:21
 slice-aggregate-meets : tie.Need-slice-aggregate-meets Inv-loop μ-loop
 slice-aggregate-meets c = sym (taken-long (c .before .before .before .loop .inv .2))
 
--- src/draw.rt:35:15
 meets-requires : tie.Need-meets-requires Inv-loop μ-loop
 meets-requires c κs = taken-long (c .before .before .before .loop .inv .2)
 
--- src/draw.rt:36:9
 paint-sprite-requires : tie.Need-paint-sprite-requires Inv-loop μ-loop
 paint-sprite-requires c κs = line-long (c .before .before .before .before .before .loop .inv .2)
 
--- src/draw.rt:37:22
 slice-aggregate-paint-sprite : tie.Need-slice-aggregate-paint-sprite Inv-loop μ-loop
 slice-aggregate-paint-sprite c = sym (taken-long (c .before .before .before .before .before .before .before .before .before .loop .inv .2))
 
--- src/draw.rt:37:9
 paint-sprite-requires-2 : tie.Need-paint-sprite-requires-2 Inv-loop μ-loop
 paint-sprite-requires-2 c κs = taken-long (c .before .before .before .before .before .before .before .before .before .loop .inv .2)
 
--- src/draw.rt:32:5
 loop-less : tie.Need-loop-less Inv-loop μ-loop
 loop-less c =
     let h = c .before .before .before .before .before .before .before .before .before .before in
     omega (arith, h .loop-test .taken)
 
--- src/draw.rt:32:5
 loop-again : tie.Need-loop-again Inv-loop μ-loop
 loop-again c =
     let i = c .before .before .before .before .before .before .before .before .before .before in
     let h = i .before .loop in
     let a = i .before .before .before .before .before .args in
-    let four = i .before .before .before .before .before .pre .1 in
-    (omega arith,
-    h .inv .1,
-    rw (one-lower (a .scan .sprites) (a .scan .drawn) (h .k) noSprite (i .loop-test .taken) (h .inv .0) (omega (arith, h .inv .1)))
-    (over-one (h .inv .2) (getD (a .scan .sprites) (h .k - 1) noSprite) (c .before .before .before .before .before .paint-sprite .ensures) (c .before .paint-sprite2 .ensures) (c .before .before .before .before .before .before .before .meets .ensures)))
+    let four = i .before .before .before .before .before .pre .1 in (
+      omega arith,
+      h .inv .1,
+      rw (one-lower (a .scan .sprites) (a .scan .drawn) (h .k) noSprite (i .loop-test .taken) (h .inv .0) (omega (arith, h .inv .1)))
+          (over-one (h .inv .2) (getD (a .scan .sprites) (h .k - 1) noSprite) (c .before .before .before .before .before .paint-sprite .ensures) (c .before .paint-sprite2 .ensures) (c .before .before .before .before .before .before .before .meets .ensures)),
+    )
 
--- src/draw.rt:23:1
 same-length : tie.Need-same-length Inv-loop μ-loop
 same-length c = omega (arith, line-long (c .before .loop .inv .2), c .before .before .before .before .before .pre .0)
 
--- src/draw.rt:23:1
 returns : tie.Need-returns Inv-loop μ-loop
 returns c =
     let h = c .before .loop in

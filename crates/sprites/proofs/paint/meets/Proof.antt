@@ -1,11 +1,12 @@
+-- `meets` meets its contract.
 use Prim.Native.Nat.{ℕ, _-_, _+_, _≤_, _<_, max}
 use native.Mathlib.Decide.{decLt}
 use native.Mathlib.Omega.{arith}
-use mathlib.Core.Path.{_≡_, sym, ap, _∙_}
-use mathlib.Core.Bool.{Bool, true, false, cond, _&&_}
+use mathlib.Core.Path.{_≡_, sym}
+use mathlib.Core.Bool.{false, _&&_}
 use borrow.Author.Needs.{needs}
 use lib.Dec.{eqb}
-use lib.ListN.{length, getD}
+use lib.ListN.{getD}
 use Rattle.chip.proofs.Laws.Ranges.{one-holds, none-holds}
 use Rattle.sprites.specs.Shape.{side}
 use Rattle.sprites.specs.Pixels.{visible, hits}
@@ -13,11 +14,6 @@ use Rattle.sprites.proofs.Laws.Columns.{hits-left, hits-right}
 use Rattle.sprites.proofs.Laws.Paint.{none-yet}
 use Rattle.sprites.proofs.paint.meets.Statement.{statement}
 use Rattle.sprites.proofs.paint.meets.Tie as tie
-use Rattle.sprites.proofs.paint.meets.Reads as reads
-use Rattle.sprites.proofs.paint.meets.Lts as lts
-use Rattle.sprites.proofs.columns.bit_at.Reads as bit-at-reads
-use Rattle.sprites.proofs.columns.end_column.Reads as end-column-reads
-use Rattle.sprites.proofs.columns.first_column.Reads as first-column-reads
 
 abbrev Inv-loop : tie.InvT-loop
 Inv-loop taken r s end c₀ c = (max (s .first) 32 ≤ c) × ((x : ℕ) → visible x < c → (hits r s (visible x) && eqb (getD taken x 0) 1) ≡ false)
@@ -32,33 +28,26 @@ in-sprite c = omega (arith, c .before .before .before .end-column .ensures, c .l
 on-screen : (c : tie.In-loop Inv-loop μ-loop) → c .before .loop .c < 288
 on-screen c = omega (arith, c .before .before .before .end-column .ensures, c .loop-test .taken)
 
--- src/paint.rt:42:9
 end-column-requires : tie.Need-end-column-requires Inv-loop μ-loop
 end-column-requires c κs = search needs
 
--- src/paint.rt:43:9
 first-column-requires : tie.Need-first-column-requires Inv-loop μ-loop
 first-column-requires c κs = search needs
 
--- src/paint.rt:44:5
 loop-holds : tie.Need-loop-holds Inv-loop μ-loop
 loop-holds c =
     let a = c .before .before .before .args in
     (omega (arith, c .first-column .ensures), λ x below. rw (hits-left (a .r) (a .s) (visible x) (omega (arith, c .first-column .ensures))))
 
--- src/paint.rt:45:12
 bit-at-requires : tie.Need-bit-at-requires Inv-loop μ-loop
 bit-at-requires c κs = (omega arith, in-sprite c)
 
--- src/paint.rt:45:37
 sub-if1 : tie.Need-sub-if1 Inv-loop μ-loop
 sub-if1 c = omega arith
 
--- src/paint.rt:45:31
 shared-slice-read-if1 : tie.Need-shared-slice-read-if1 Inv-loop μ-loop
 shared-slice-read-if1 c = omega (arith, on-screen (c .before .before), c .before .before .before .before .before .before .before .pre)
 
--- src/paint.rt:46:13
 returns : tie.Need-returns Inv-loop μ-loop
 returns c =
     let i = c .before .before .before in
@@ -67,24 +56,21 @@ returns c =
     let back : visible x ≡ i .before .loop .c = omega arith in
     sym (one-holds 256 (λ x. hits (a .r) (a .s) (visible x) && eqb (getD (a .taken .now) x 0) 1) x (omega (arith, on-screen i)) (rw back (rw (c .before .before .bit-at .ensures) at (c .if1 .taken))))
 
--- src/paint.rt:48:9
 add-c : tie.Need-add-c Inv-loop μ-loop
 add-c c = omega (arith, on-screen (c .before .before .before))
 
--- src/paint.rt:44:5
 loop-less : tie.Need-loop-less Inv-loop μ-loop
 loop-less c = omega (arith, on-screen (c .before .before .before))
 
--- src/paint.rt:44:5
 loop-again : tie.Need-loop-again Inv-loop μ-loop
 loop-again c =
     let i = c .before .before .before in
     let h = i .before .loop in
-    let a = i .before .before .before .before .before .args in
-    (omega arith,
-    none-yet (λ k x. hits (a .r) (a .s) k && eqb (getD (a .taken .now) x 0) 1) (h .c) (omega arith) (h .inv .1) (rw (c .before .before .bit-at .ensures) at (c .if1 .left)))
+    let a = i .before .before .before .before .before .args in (
+      omega arith,
+      none-yet (λ k x. hits (a .r) (a .s) k && eqb (getD (a .taken .now) x 0) 1) (h .c) (omega arith) (h .inv .1) (rw (c .before .before .bit-at .ensures) at (c .if1 .left)),
+    )
 
--- src/paint.rt:38:1
 returns-2 : tie.Need-returns-2 Inv-loop μ-loop
 returns-2 c =
     let a = c .before .before .before .before .before .args in

@@ -1,25 +1,16 @@
+-- `paint_sprite` meets its contract.
 use Prim.Native.Nat.{ℕ, _-_, _+_, _≤_, _<_, max}
 use native.Mathlib.Omega.{arith}
-use mathlib.Core.Path.{_≡_, sym, ap, _∙_}
-use mathlib.Core.Bool.{Bool, true, false, cond, _&&_}
+use mathlib.Core.Path.{_≡_}
+use mathlib.Core.Bool.{cond}
 use borrow.Author.Needs.{needs}
-use lib.Dec.{eqb}
-use lib.ListN.{length, getD}
 use Rattle.planes.specs.Pixel.{over}
-use Rattle.chip.proofs.Laws.Ranges.{one-holds, none-holds, and-left, and-right}
 use Rattle.sprites.specs.Shape.{side}
 use Rattle.sprites.specs.Pixels.{visible, hits}
 use Rattle.sprites.proofs.Laws.Columns.{hits-left, hits-right}
 use Rattle.sprites.proofs.Laws.Paint.{Swept, swept-none, swept-more, swept-all}
 use Rattle.sprites.proofs.paint.paint_sprite.Statement.{statement}
 use Rattle.sprites.proofs.paint.paint_sprite.Tie as tie
-use Rattle.sprites.proofs.paint.paint_sprite.Reads as reads
-use Rattle.sprites.proofs.paint.paint_sprite.Lts as lts
-use Rattle.planes.proofs.over.Reads as over-reads
-use Rattle.sprites.proofs.columns.bit_at.Reads as bit-at-reads
-use Rattle.sprites.proofs.columns.end_column.Reads as end-column-reads
-use Rattle.sprites.proofs.columns.first_column.Reads as first-column-reads
-use Rattle.sprites.proofs.paint.front.Reads as front-reads
 
 abbrev Inv-loop : tie.InvT-loop
 Inv-loop line₀ r s colour end c₀ line c = (max (s .first) 32 ≤ c) × Swept line line₀ (λ x o. over (cond (hits r s (visible x)) colour 0) o) c
@@ -34,53 +25,41 @@ in-sprite c = omega (arith, c .before .before .before .end-column .ensures, c .l
 on-screen : (c : tie.In-loop Inv-loop μ-loop) → c .before .loop .c < 288
 on-screen c = omega (arith, c .before .before .before .end-column .ensures, c .loop-test .taken)
 
--- src/paint.rt:28:9
 end-column-requires : tie.Need-end-column-requires Inv-loop μ-loop
 end-column-requires c κs = search needs
 
--- src/paint.rt:29:9
 first-column-requires : tie.Need-first-column-requires Inv-loop μ-loop
 first-column-requires c κs = search needs
 
--- src/paint.rt:30:5
 loop-holds : tie.Need-loop-holds Inv-loop μ-loop
 loop-holds c =
     let a = c .before .before .before .args in
     (omega (arith, c .first-column .ensures), swept-none (c .before .before .before .pre) (λ x below o. rw (hits-left (a .r) (a .s) (visible x) (omega (arith, c .first-column .ensures)))))
 
--- src/paint.rt:31:17
 sub-x : tie.Need-sub-x Inv-loop μ-loop
 sub-x c = omega arith
 
--- src/paint.rt:32:30
 bit-at-requires : tie.Need-bit-at-requires Inv-loop μ-loop
 bit-at-requires c κs = (omega arith, in-sprite c)
 
--- src/paint.rt:32:24
 front-requires : tie.Need-front-requires Inv-loop μ-loop
 front-requires c κs = search needs
 
--- src/paint.rt:32:56
 slice-read-over : tie.Need-slice-read-over Inv-loop μ-loop
 slice-read-over c = omega (arith, on-screen (c .before .before .before), c .before .before .before .before .loop .inv .1 .long)
 
--- src/paint.rt:32:19
 over-requires : tie.Need-over-requires Inv-loop μ-loop
 over-requires c κs = search needs
 
--- src/paint.rt:32:9
 slice-write-line : tie.Need-slice-write-line Inv-loop μ-loop
 slice-write-line c = omega (arith, on-screen (c .before .before .before .before), c .before .before .before .before .before .loop .inv .1 .long)
 
--- src/paint.rt:33:9
 add-c : tie.Need-add-c Inv-loop μ-loop
 add-c c = omega (arith, on-screen (c .before .before .before .before))
 
--- src/paint.rt:30:5
 loop-less : tie.Need-loop-less Inv-loop μ-loop
 loop-less c = omega (arith, on-screen (c .before .before .before .before))
 
--- src/paint.rt:30:5
 loop-again : tie.Need-loop-again Inv-loop μ-loop
 loop-again c =
     let i = c .before .before .before .before in
@@ -89,11 +68,9 @@ loop-again c =
     let back : visible (h .c - 32) ≡ h .c = omega arith in
     (omega arith, swept-more (c .over .result) (omega arith) (on-screen i) (rw back shown) (h .inv .1))
 
--- src/paint.rt:24:1
 same-length : tie.Need-same-length Inv-loop μ-loop
 same-length c = omega (arith, c .before .loop .inv .1 .long)
 
--- src/paint.rt:24:1
 returns : tie.Need-returns Inv-loop μ-loop
 returns c =
     let a = c .before .before .before .before .before .args in

@@ -1,3 +1,4 @@
+-- `scan_of` meets its contract.
 use Prim.Native.Nat.{ℕ, _-_, _<_}
 use mathlib.Core.Bool.{true}
 use native.Mathlib.Omega.{arith}
@@ -12,11 +13,6 @@ use Rattle.sprites.proofs.Laws.Bounds.{attribute-inside}
 use Rattle.sprites.proofs.Laws.Scan.{Going, going-start, going-on, going-draw, going-end, at-end, at-terminator, not-covering, at-fifth, drawn}
 use Rattle.sprites.proofs.scan.scan_of.Statement.{statement}
 use Rattle.sprites.proofs.scan.scan_of.Tie as tie
-use Rattle.sprites.proofs.scan.scan_of.Reads as reads
-use Rattle.sprites.proofs.scan.scan_of.Lts as lts
-use Rattle.sprites.proofs.shape.covers.Reads as covers-reads
-use Rattle.sprites.proofs.sprite.attribute_at.Reads as attribute-at-reads
-use Rattle.sprites.proofs.sprite.sprite_of.Reads as sprite-of-reads
 
 abbrev Inv-loop : tie.InvT-loop
 Inv-loop r vram l sprites₀ drawn₀ n₀ sprites drawn n = Going r l vram sprites drawn n
@@ -54,15 +50,12 @@ does c = left-not (cov (c .before)) (c .if3 .left)
 few : (c : tie.Else4 Inv-loop μ-loop) → At (c .before .before .before) .loop .drawn < 4
 few c = let most = At (c .before .before .before) .loop .inv .few in let not-four = c .if4 .left in omega arith
 
--- src/scan.rt:42:9
 loop-holds : tie.Need-loop-holds Inv-loop μ-loop
 loop-holds c = going-start (search needs)
 
--- src/scan.rt:46:22
 attribute-at-requires : tie.Need-attribute-at-requires Inv-loop μ-loop
 attribute-at-requires c κs = (c .before .before .before .pre .0, left c, lit< tt)
 
--- src/scan.rt:46:17
 shared-slice-read-y : tie.Need-shared-slice-read-y Inv-loop μ-loop
 shared-slice-read-y c =
     let s = c .before .before .before .before .before in
@@ -70,55 +63,43 @@ shared-slice-read-y c =
     let low : c .before .attribute-at .result < 16384 = rw (c .before .attribute-at .ensures) (attribute-inside (s .args .r) (s .pre .0) (e .before .loop .n) 0 (left e) (lit< tt)) in
     omega arith
 
--- src/scan.rt:50:13
 covers-requires : tie.Need-covers-requires Inv-loop μ-loop
 covers-requires c κs = search needs
 
--- src/scan.rt:51:13
 add-n : tie.Need-add-n Inv-loop μ-loop
 add-n c = omega (arith, left (c .before .before .before .before .before))
 
--- src/scan.rt:42:9
 loop-less : tie.Need-loop-less Inv-loop μ-loop
 loop-less c = omega (arith, left (c .before .before .before .before .before))
 
--- src/scan.rt:42:9
 loop-again : tie.Need-loop-again Inv-loop μ-loop
 loop-again c =
     let e = c .before .before in
     going-on (At e .loop .inv) (left (E1 e)) (not-covering (St e .args .r) (St e .args .l) (St e .args .vram .now) (At e .loop .n) (At e .loop .drawn) (left (E1 e)) (more e) (taken-not (cov (c .before)) (c .if3 .taken)))
 
--- src/scan.rt:55:32
 cast-t16 : tie.Need-cast-t16 Inv-loop μ-loop
 cast-t16 c = omega (arith, left (E1 (c .before .before .before)))
 
--- src/scan.rt:57:26
 sprite-of-requires : tie.Need-sprite-of-requires Inv-loop μ-loop
 sprite-of-requires c κs =
     let e = c .before .before .before in
     (St e .pre .0, St e .pre .1, left-not (c .before .before .covers .ensures) (c .before .if3 .left), left (E1 e))
 
--- src/scan.rt:57:9
 mul-sprites : tie.Need-mul-sprites Inv-loop μ-loop
 mul-sprites c = omega (arith, few (c .before))
 
--- src/scan.rt:57:9
 array-set-from-sprites : tie.Need-array-set-from-sprites Inv-loop μ-loop
 array-set-from-sprites c = few (c .before)
 
--- src/scan.rt:58:9
 add-drawn : tie.Need-add-drawn Inv-loop μ-loop
 add-drawn c = omega (arith, few (c .before))
 
--- src/scan.rt:59:9
 add-n-2 : tie.Need-add-n-2 Inv-loop μ-loop
 add-n-2 c = omega (arith, left (c .before .before .before .before .before .before .before))
 
--- src/scan.rt:42:9
 loop-less-2 : tie.Need-loop-less-2 Inv-loop μ-loop
 loop-less-2 c = omega (arith, left (c .before .before .before .before .before .before .before))
 
--- src/scan.rt:42:9
 loop-again-2 : tie.Need-loop-again-2 Inv-loop μ-loop
 loop-again-2 c =
     let e = c .before .before .before .before in
@@ -126,11 +107,9 @@ loop-again-2 c =
     let s = rw (e .before .before .attribute-at .ensures) at (c .sprite-of .ensures) in
     going-draw (At e .loop .inv) (c .sprite-of .result) (left (E1 e)) (few (c .before)) (rw s d)
 
--- src/scan.rt:30:1
 returns : tie.Need-returns Inv-loop μ-loop
 returns c = going-end (c .before .loop .inv) _ (at-end _ _ _ _ _ (c .if1 .taken))
 
--- src/scan.rt:30:1
 returns-2 : tie.Need-returns-2 Inv-loop μ-loop
 returns-2 c =
     let a = c .before .before in
@@ -138,7 +117,6 @@ returns-2 c =
     let h = a .before .before .loop in
     going-end (h .inv) _ (at-terminator (s .args .r) (s .args .l) (s .args .vram .now) (h .n) (h .drawn) (left (a .before)) (rw (a .attribute-at .ensures) at (c .if2 .taken)))
 
--- src/scan.rt:30:1
 returns-3 : tie.Need-returns-3 Inv-loop μ-loop
 returns-3 c =
     let e = c .before .before .before in

@@ -1,14 +1,11 @@
+-- `scaled` meets its contract.
 use borrow.Author.Needs.{needs}
 use Rattle.sprites.proofs.shape.scaled.Statement.{statement}
 use Rattle.sprites.proofs.shape.scaled.Tie as tie
-use Rattle.sprites.proofs.shape.scaled.Reads as reads
-use Rattle.sprites.proofs.shape.scaled.Lts as lts
 
--- src/shape.rt:33:1
 returns : tie.Need-returns
 returns c = rw (c .if1 .taken)
 
--- src/shape.rt:33:1
 returns-2 : tie.Need-returns-2
 returns-2 c = search needs
 

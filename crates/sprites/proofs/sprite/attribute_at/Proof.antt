@@ -1,37 +1,29 @@
+-- `attribute_at` meets its contract.
 use native.Mathlib.Omega.{arith}
 use lib.Dec.{lit<}
 use Rattle.chip.proofs.Laws.Tables.{at-most-mask}
 use borrow.Author.Needs.{needs}
 use Rattle.sprites.proofs.sprite.attribute_at.Statement.{statement}
 use Rattle.sprites.proofs.sprite.attribute_at.Tie as tie
-use Rattle.sprites.proofs.sprite.attribute_at.Reads as reads
-use Rattle.sprites.proofs.sprite.attribute_at.Lts as lts
 
--- src/sprite.rt:30:5
 array-read-result : tie.Need-array-read-result
 array-read-result c = search needs
 
--- src/sprite.rt:30:5
 cast-result : tie.Need-cast-result
 cast-result c = search needs
 
--- src/sprite.rt:30:5
 mul-result : tie.Need-mul-result
 mul-result c = omega (arith, at-most-mask _ (c .pre .0) 5 (lit< tt))
 
--- src/sprite.rt:30:28
 mul-result-2 : tie.Need-mul-result-2
 mul-result-2 c = search needs
 
--- src/sprite.rt:30:28
 add-result : tie.Need-add-result
 add-result c = search needs
 
--- src/sprite.rt:30:5
 add-result-2 : tie.Need-add-result-2
 add-result-2 c = omega (arith, at-most-mask _ (c .pre .0) 5 (lit< tt))
 
--- src/sprite.rt:26:1
 returns : tie.Need-returns
 returns c = search needs
 

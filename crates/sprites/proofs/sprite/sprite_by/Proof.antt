@@ -1,23 +1,17 @@
+-- `sprite_by` meets its contract.
 use borrow.Author.Needs.{needs}
 use Rattle.sprites.proofs.sprite.sprite_by.Statement.{statement}
 use Rattle.sprites.proofs.sprite.sprite_by.Tie as tie
-use Rattle.sprites.proofs.sprite.sprite_by.Reads as reads
-use Rattle.sprites.proofs.sprite.sprite_by.Lts as lts
-use Rattle.sprites.proofs.sprite.first_of.Reads as first-of-reads
 
--- src/sprite.rt:59:9
 first-of-requires : tie.Need-first-of-requires
 first-of-requires c κs = search needs
 
--- src/sprite.rt:63:15
 mul-t8 : tie.Need-mul-t8
 mul-t8 c = search needs
 
--- src/sprite.rt:63:15
 add-t10 : tie.Need-add-t10
 add-t10 c = search needs
 
--- src/sprite.rt:56:1
 returns : tie.Need-returns
 returns c = rw (c .first-of .ensures)
 

@@ -1,6 +1,7 @@
+-- `sprite_of` meets its contract.
 use Prim.Native.Nat.{_+_, _<_}
 use native.Mathlib.Omega.{arith}
-use mathlib.Core.Path.{_≡_, sym, _∙_}
+use mathlib.Core.Path.{sym, _∙_}
 use mathlib.Core.Bool.{cond}
 use lib.Dec.{lit<}
 use Rattle.chip.specs.Modes.{largeSprites}
@@ -10,47 +11,34 @@ use Rattle.sprites.proofs.Laws.Bounds.{attribute-inside, pattern-inside
 use borrow.Author.Needs.{needs}
 use Rattle.sprites.proofs.sprite.sprite_of.Statement.{statement}
 use Rattle.sprites.proofs.sprite.sprite_of.Tie as tie
-use Rattle.sprites.proofs.sprite.sprite_of.Reads as reads
-use Rattle.sprites.proofs.sprite.sprite_of.Lts as lts
-use Rattle.sprites.proofs.shape.is_large.Reads as is-large-reads
-use Rattle.sprites.proofs.sprite.attribute_at.Reads as attribute-at-reads
-use Rattle.sprites.proofs.sprite.pattern_at.Reads as pattern-at-reads
-use Rattle.sprites.proofs.sprite.sprite_by.Reads as sprite-by-reads
 
--- src/sprite.rt:65:18
 attribute-at-requires : tie.Need-attribute-at-requires
 attribute-at-requires c κs = search needs
 
--- src/sprite.rt:65:13
 shared-slice-read-x : tie.Need-shared-slice-read-x
 shared-slice-read-x c =
     let s = c .before .before .before in
     let low : c .before .attribute-at .result < 16384 = rw (c .before .attribute-at .ensures) (attribute-inside (s .args .r) (s .pre .0) (s .args .n) 1 (s .pre .3) (lit< tt)) in
     omega arith
 
--- src/sprite.rt:66:21
 attribute-at-requires-2 : tie.Need-attribute-at-requires-2
 attribute-at-requires-2 c κs = search needs
 
--- src/sprite.rt:66:16
 shared-slice-read-name : tie.Need-shared-slice-read-name
 shared-slice-read-name c =
     let s = c .before .before .before .before .before in
     let low : c .before .attribute-at2 .result < 16384 = rw (c .before .attribute-at2 .ensures) (attribute-inside (s .args .r) (s .pre .0) (s .args .n) 2 (s .pre .3) (lit< tt)) in
     omega arith
 
--- src/sprite.rt:67:18
 attribute-at-requires-3 : tie.Need-attribute-at-requires-3
 attribute-at-requires-3 c κs = search needs
 
--- src/sprite.rt:67:13
 shared-slice-read-c : tie.Need-shared-slice-read-c
 shared-slice-read-c c =
     let s = c .before .before .before .before .before .before .before in
     let low : c .before .attribute-at3 .result < 16384 = rw (c .before .attribute-at3 .ensures) (attribute-inside (s .args .r) (s .pre .0) (s .args .n) 3 (s .pre .3) (lit< tt)) in
     omega arith
 
--- src/sprite.rt:68:9
 pattern-at-requires : tie.Need-pattern-at-requires
 pattern-at-requires c κs = search needs
 
@@ -60,19 +48,15 @@ low c =
     let s = c .before .before .before .before .before .before .before .before in
     rw (c .pattern-at .ensures) (pattern-inside (s .args .r) (s .pre .0) (s .args .l) (s .args .y) _ (s .pre .2) (omega (arith, c .before .before .before .shared-slice-known3 .given (c .before .before .before .before .attribute-at2 .result))))
 
--- src/sprite.rt:69:16
 shared-slice-read-left : tie.Need-shared-slice-read-left
 shared-slice-read-left c = omega (arith, low (c .before))
 
--- src/sprite.rt:70:8
 is-large-requires : tie.Need-is-large-requires
 is-large-requires c κs = search needs
 
--- src/sprite.rt:71:36
 add-sprite-by : tie.Need-add-sprite-by
 add-sprite-by c = omega (arith, low (c .before .before .before))
 
--- src/sprite.rt:71:31
 shared-slice-read-sprite-by : tie.Need-shared-slice-read-sprite-by
 shared-slice-read-sprite-by c =
     let b = c .before .before in
@@ -80,22 +64,18 @@ shared-slice-read-sprite-by c =
     let inside = rw large at (low (b .before .before)) in
     omega (arith, inside)
 
--- src/sprite.rt:71:9
 sprite-by-requires : tie.Need-sprite-by-requires
 sprite-by-requires c κs = search needs
 
--- src/sprite.rt:73:9
 sprite-by-requires-2 : tie.Need-sprite-by-requires-2
 sprite-by-requires-2 c κs = search needs
 
--- src/sprite.rt:61:1
 returns : tie.Need-returns
 unfolding value spriteOf
 returns c =
     rw (sym (c .before .before .before .is-large .ensures) ∙ c .before .before .if1 .taken)
     (rw (c .before .before .before .before .before .pattern-at .ensures, c .before .before .before .before .before .before .before .attribute-at3 .ensures, c .before .before .before .before .before .before .before .before .before .attribute-at2 .ensures, c .before .before .before .before .before .before .before .before .before .before .before .attribute-at .ensures) at (c .sprite-by .ensures))
 
--- src/sprite.rt:61:1
 returns-2 : tie.Need-returns-2
 unfolding value spriteOf
 returns-2 c =
