@@ -2,7 +2,7 @@
 use Prim.Native.Nat.{ℕ, _+_, _*_}
 use mathlib.Core.Bool.{Bool, false, cond, not, _&&_, _||_}
 use mathlib.Core.List.{List, [], _∷_}
-use lib.Dec.{eqb}
+use lib.Dec.{eqb, leb}
 use lib.ListN.{length}
 use Rattle.chip.specs.State.{vramSize, wellFormed}
 use Rattle.chip.specs.declared.state.Chip.{Chip}
@@ -44,6 +44,10 @@ sliceTest n slice = record { refusal = SliceLength; passes = eqb (length slice) 
 -- The state is well-formed.
 abbrev pub stateTest : Chip → Test
 stateTest c = record { refusal = IllFormed; passes = wellFormed c }
+
+-- The line number is at most 191.
+abbrev pub lineTest : ℕ → Test
+lineTest l = record { refusal = LineNumber; passes = leb l 191 }
 
 -- Whether one of the tests gives the refusal r.
 abbrev pub gives : List Test → Refusal → Bool

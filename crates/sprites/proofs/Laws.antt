@@ -5,3 +5,4 @@ pub mod Columns
 pub mod Paint
 pub mod Draw
 pub mod Due
+pub mod Ended

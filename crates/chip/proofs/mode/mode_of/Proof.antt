@@ -1,55 +1,41 @@
+-- `mode_of` meets its contract.
 use Rattle.chip.specs.Modes.{modeOf}
 use Rattle.chip.proofs.Laws.State.{taken-not, left-not}
 use borrow.Author.Needs.{needs}
 use Rattle.chip.proofs.mode.mode_of.Statement.{statement}
 use Rattle.chip.proofs.mode.mode_of.Tie as tie
-use Rattle.chip.proofs.mode.mode_of.Reads as reads
-use Rattle.chip.proofs.mode.mode_of.Lts as lts
-use Rattle.chip.proofs.bits.bit.Reads as bit-reads
-use Rattle.chip.proofs.mode.mode_by.Reads as mode-by-reads
 
--- src/mode.rt:34:13
 array-read-bit : tie.Need-array-read-bit
 array-read-bit c = search needs
 
--- src/mode.rt:34:9
 bit-requires : tie.Need-bit-requires
 bit-requires c κs = search needs
 
--- src/mode.rt:35:9
 returns : tie.Need-returns
 unfolding modeOf
 returns c = rw (taken-not (c .before .bit .ensures) (c .if1 .taken))
 
--- src/mode.rt:37:17
 array-read-bit-2 : tie.Need-array-read-bit-2
 array-read-bit-2 c = search needs
 
--- src/mode.rt:37:13
 bit-requires-2 : tie.Need-bit-requires-2
 bit-requires-2 c κs = search needs
 
--- src/mode.rt:37:39
 array-read-bit-3 : tie.Need-array-read-bit-3
 array-read-bit-3 c = search needs
 
--- src/mode.rt:37:35
 bit-requires-3 : tie.Need-bit-requires-3
 bit-requires-3 c κs = search needs
 
--- src/mode.rt:37:61
 array-read-bit-4 : tie.Need-array-read-bit-4
 array-read-bit-4 c = search needs
 
--- src/mode.rt:37:57
 bit-requires-4 : tie.Need-bit-requires-4
 bit-requires-4 c κs = search needs
 
--- src/mode.rt:37:5
 mode-by-requires : tie.Need-mode-by-requires
 mode-by-requires c κs = search needs
 
--- src/mode.rt:31:1
 returns-2 : tie.Need-returns-2
 unfolding modeOf
 returns-2 c =

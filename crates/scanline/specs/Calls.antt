@@ -1,0 +1,32 @@
+-- The call that draws a line.
+use Prim.Native.Nat.{ℕ}
+use mathlib.Core.List.{List, [], _∷_}
+use Rattle.chip.specs.Refusals.{vramTest, sliceTest, stateTest, lineTest, refusalOf, ifAccepted, answered}
+use Rattle.chip.specs.State.{withStatus}
+use Rattle.chip.specs.declared.state.Chip.{Chip}
+use Rattle.chip.specs.declared.refusal.Answer.{Answer}
+use Rattle.chip.specs.declared.refusal.Refusal.{Refusal}
+use Rattle.fetches.specs.Fetch.{value}
+use Rattle.scanline.specs.Line.{lineOf, coloursOf}
+use Rattle.scanline.specs.Notes.{noteOf, statusAfter}
+
+abbrev pub lineSize : ℕ
+lineSize = 256
+
+-- Line l's note, from registers and VRAM.
+abbrev pub noteAt : List ℕ → List ℕ → ℕ → ℕ
+noteAt r vram l = noteOf r (value (lineOf r l) vram)
+
+-- The line's 256 colours.
+abbrev pub colours : List ℕ → List ℕ → ℕ → List ℕ
+colours r vram l = coloursOf r (value (lineOf r l) vram)
+
+abbrev pub drawLineRefusal : Chip → List ℕ → List ℕ → ℕ → Refusal
+drawLineRefusal c vram line l = refusalOf (vramTest vram ∷ sliceTest lineSize line ∷ stateTest c ∷ lineTest l ∷ [])
+
+-- Status follows the line's note, and nothing else of the state changes.
+abbrev pub drawLine : Chip → List ℕ → List ℕ → ℕ → Answer
+drawLine c vram line l = answered (drawLineRefusal c vram line l) c (withStatus (statusAfter (c .status) (noteAt (c .registers) vram l)) c) 0
+
+abbrev pub drawLineLine : Chip → List ℕ → List ℕ → ℕ → List ℕ
+drawLineLine c vram line l = ifAccepted (drawLineRefusal c vram line l) (colours (c .registers) vram l) line

@@ -1,0 +1,4 @@
+-- A line: what it reads, what it shows, its note, and the call that draws it.
+pub mod Line
+pub mod Notes
+pub mod Calls

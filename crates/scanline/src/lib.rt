@@ -1,0 +1,10 @@
+// A line: its pattern plane, its sprites and its note; the call that draws it, and the test whether it is due.
+mod call;
+mod draw;
+mod due;
+mod note;
+
+pub use call::draw_line;
+pub use draw::draw_row;
+pub use due::line_marked;
+pub use note::status_after;
