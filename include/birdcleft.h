@@ -18,7 +18,8 @@ extern "C" {
 enum {
     VDP_BLOCK_SIZE = 15,
     VDP_VRAM_SIZE = 16384,
-    VDP_MAP_SIZE = 2048
+    VDP_MAP_SIZE = 2048,
+    VDP_SNAPSHOT_SIZE = 16406
 };
 
 /* Refusal numbers. Tests run in the order 1, 2, 5, 6, 7, 3, 4. */
@@ -63,6 +64,16 @@ uint32_t vdp_interrupt_line(const uint8_t *block, size_t block_len);
 
 /* Reset: clears registers 0 and 1, status and the waiting byte. */
 uint32_t vdp_reset(uint8_t *block, size_t block_len);
+
+/* The snapshot: VRAM; the block without its redraw mark; a trailer of eight bytes, which are 56 31 (hex),
+ * the distances from the trailer back to the block and to VRAM, and the sum of all bytes before it. */
+
+/* State and VRAM from a snapshot, with the redraw mark set. The block may hold anything, and
+ * VDP_ILL_FORMED speaks of the snapshot. */
+uint32_t vdp_read_snapshot(uint8_t *block, size_t block_len, uint8_t *vram, size_t vram_len, const uint8_t *snapshot, size_t snapshot_len);
+
+/* A snapshot of state and VRAM. */
+uint32_t vdp_write_snapshot(const uint8_t *block, size_t block_len, const uint8_t *vram, size_t vram_len, uint8_t *snapshot, size_t snapshot_len);
 
 #ifdef __cplusplus
 }

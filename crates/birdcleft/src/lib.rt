@@ -9,6 +9,8 @@ use chip::Answer;
 use chip::Chip;
 use chip::Refusal;
 
+mod snapshots;
+
 // 256 times the number of the refusal that the block gives: 0 where it holds a state.
 fn block_refused(block: &[u8]) -> u32
     ensures { λ r. ⌜ r ≡ numberOf (refusalOf (blockTests (now (block .entry)))) * 256 ⌝ }

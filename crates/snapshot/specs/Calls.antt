@@ -1,0 +1,40 @@
+-- Writing and reading a snapshot: the tests that each makes, its answer, and what it leaves in lent slices, accepted or refused.
+use Prim.Native.Nat.{ℕ}
+use mathlib.Core.Bool.{true}
+use mathlib.Core.List.{List, [], _∷_}
+use Rattle.chip.specs.State.{withRedraw}
+use Rattle.chip.specs.Layout.{decoded}
+use Rattle.chip.specs.Refusals.{Test, vramTest, stateTest, refusalOf, ifAccepted, answered}
+use Rattle.chip.specs.declared.state.Chip.{Chip}
+use Rattle.chip.specs.declared.refusal.Answer.{Answer}
+use Rattle.chip.specs.declared.refusal.Refusal.{Refusal}
+use Rattle.snapshot.specs.Format.{snapshotOf}
+use Rattle.snapshot.specs.Tests.{stateBytes, vramBytes, sizeTest, trailerTest, sumTest, contentsTest}
+
+abbrev pub writeRefusal : Chip → List ℕ → List ℕ → Refusal
+writeRefusal c vram out = refusalOf (vramTest vram ∷ sizeTest out ∷ stateTest c ∷ [])
+
+-- Writing hands the state back as it was.
+abbrev pub writeSnapshot : Chip → List ℕ → List ℕ → Answer
+writeSnapshot c vram out = answered (writeRefusal c vram out) c c 0
+
+abbrev pub written : Chip → List ℕ → List ℕ → List ℕ
+written c vram out = ifAccepted (writeRefusal c vram out) (snapshotOf c vram) out
+
+-- Reading does not test the state, which it replaces.
+abbrev pub readTests : List ℕ → List ℕ → List Test
+readTests vram s = vramTest vram ∷ sizeTest s ∷ trailerTest s ∷ sumTest s ∷ contentsTest s ∷ []
+
+abbrev pub readRefusal : List ℕ → List ℕ → Refusal
+readRefusal vram s = refusalOf (readTests vram s)
+
+-- The redraw mark is not stored: reading sets it.
+abbrev pub readSnapshot : Chip → List ℕ → List ℕ → Answer
+readSnapshot c vram s = answered (readRefusal vram s) c (decoded (stateBytes s) true) 0
+
+abbrev pub readVram : List ℕ → List ℕ → List ℕ
+readVram vram s = ifAccepted (readRefusal vram s) (vramBytes s) vram
+
+-- A state but for its redraw mark, which a snapshot does not keep: two states have the same exactly when they differ in the mark at most.
+abbrev pub butMark : Chip → Chip
+butMark c = withRedraw true c

@@ -1,0 +1,54 @@
+-- What stands where in a snapshot, found from its end, and the tests of it.
+use Prim.Native.Nat.{ℕ, _+_, _-_, _*_}
+use mathlib.Core.Bool.{Bool, _&&_}
+use mathlib.Core.List.{List}
+use lib.Dec.{eqb}
+use lib.ListN.{length, getD, take, drop}
+use Rattle.chip.specs.State.{vramSize}
+use Rattle.chip.specs.Layout.{holdsState}
+use Rattle.chip.specs.Refusals.{Test}
+use Rattle.chip.specs.declared.refusal.Refusal.the-variants.{IllFormed, SnapshotLength, Trailer, Checksum}
+use Rattle.snapshot.specs.Format.{snapshotSize, trailerSize, toBlock, toVram, checksum}
+
+-- Where the trailer starts, and where its sum does.
+abbrev pub trailerAt : List ℕ → ℕ
+trailerAt s = length s - trailerSize
+
+abbrev pub sumAt : List ℕ → ℕ
+sumAt s = trailerAt s + 6
+
+-- The 14 bytes of the state, and the bytes of VRAM, each its distance before the trailer.
+unfoldable pub stateBytes : List ℕ → List ℕ
+stateBytes s = take 14 (drop (trailerAt s - toBlock) s)
+
+unfoldable pub vramBytes : List ℕ → List ℕ
+vramBytes s = take vramSize (drop (trailerAt s - toVram) s)
+
+-- The number that two bytes hold, low first.
+abbrev pub pairAt : List ℕ → ℕ → ℕ
+pairAt s i = getD s i 0 + 256 * getD s (i + 1) 0
+
+-- Whether the mark and both distances are right.
+unfoldable pub pointsBack : List ℕ → Bool
+pointsBack s =
+    eqb (getD s (trailerAt s) 0) 0x56
+    && eqb (getD s (trailerAt s + 1) 0) 0x31
+    && eqb (pairAt s (trailerAt s + 2)) toBlock
+    && eqb (pairAt s (trailerAt s + 4)) toVram
+
+-- Whether the sum of all bytes before it is the one that stands there.
+unfoldable pub sumRight : List ℕ → Bool
+sumRight s = eqb (pairAt s (sumAt s)) (checksum (take (sumAt s) s))
+
+-- The tests of a snapshot: its length, its mark and distances, its sum, and that its 14 bytes hold a state.
+abbrev pub sizeTest : List ℕ → Test
+sizeTest s = record { refusal = SnapshotLength; passes = eqb (length s) snapshotSize }
+
+abbrev pub trailerTest : List ℕ → Test
+trailerTest s = record { refusal = Trailer; passes = pointsBack s }
+
+abbrev pub sumTest : List ℕ → Test
+sumTest s = record { refusal = Checksum; passes = sumRight s }
+
+abbrev pub contentsTest : List ℕ → Test
+contentsTest s = record { refusal = IllFormed; passes = holdsState (stateBytes s) }
