@@ -11,6 +11,7 @@ use borrow.Author.Tests.{eqb-true}
 use Rattle.chip.specs.State.{Bytes, wellFormed}
 use Rattle.chip.specs.Layout.{encoded, decoded, holdsState}
 use Rattle.chip.specs.declared.state.Chip.{Chip}
+use Rattle.chip.specs.Lists.{tabulate}
 use Rattle.chip.proofs.Laws.Lists.{take-tabulate, listed}
 use Rattle.chip.proofs.Laws.Ranges.{and-left, and-right}
 use Rattle.chip.proofs.Laws.Layout.{encoded-decoded}
@@ -51,7 +52,7 @@ module _ (file : List ℕ) (bytes : Bytes file) {old : List ℕ} (r : Readable o
 
   -- the mark and the distances are the trailer's first six bytes
   pointers-kept : take 6 (drop 16398 file) ≡ pointers
-  unfolding pointsBack
+  unfolding pointsBack tabulate
   pointers-kept =
       let q = all-four (eqb (at 16398) 0x56) (eqb (at 16399) 0x31) (eqb (pairAt file 16400) 14) (eqb (pairAt file 16402) 16398) (rw (r .whole) at (r .points)) in
       let block = eqb-true (pairAt file 16400) 14 (q .2) in
@@ -76,7 +77,7 @@ module _ (file : List ℕ) (bytes : Bytes file) {old : List ℕ} (r : Readable o
       ∙ ap₂ _++_ (take-add 16384 14 file ∙ sym (ap₂ _++_ vram state)) pointers-kept
 
   sum-kept : lowFirst (checksum (take 16404 file)) ≡ drop 16404 file
-  unfolding sumRight
+  unfolding sumRight tabulate
   sum-kept =
       let total = eqb-true (pairAt file 16404) (checksum (take 16404 file)) (rw (r .whole) at (r .total)) in
       let low : checksum (take 16404 file) % 256 ≡ at 16404 = omega (arith, bytes 16404, bytes 16405) in
