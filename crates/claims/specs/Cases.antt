@@ -1,10 +1,12 @@
 -- The cases at the edges, P1 to P12: each runs the whole definitions from a state in which a wrong answer would show.
-use Prim.Native.Nat.{ℕ}
+use Prim.Native.Nat.{ℕ, _+_}
 use mathlib.Core.Path.{_≡_}
 use mathlib.Core.Bool.{true, false}
-use mathlib.Core.List.{List, [], _∷_}
+use mathlib.Core.List.{List, [], _∷_, _++_}
 use lib.ListN.{set, replicate}
+use lib.Seq.{sets}
 use Rattle.chip.specs.Calls.{controlWrite, dataWrite, dataWriteVram, dataWriteMap, readStatus}
+use Rattle.scanline.specs.Calls.{colours, drawLine}
 use Rattle.chip.specs.declared.state.Chip.{Chip}
 use Rattle.chip.specs.declared.state.Waiting.{Waiting}
 use Rattle.chip.specs.declared.state.Waiting.the-variants.{Nothing, First}
@@ -88,9 +90,87 @@ P4 =
 abbrev pub P5 : Type 0
 P5 = control 0x07 (status (control 0xFF start)) ≡ record { chip = state 0x1234 0x99 (First 0x07) 0x0C; vram = memory; map = noMarks }
 
+-- A memory for one sprite: attributes at 1000 with a terminator behind it, its pattern at 1800, its colour 15. Names,
+-- patterns and colours of the plane are zero.
+abbrev pub withSprite : ℕ → ℕ → ℕ → List ℕ → List ℕ
+withSprite y x c patterns =
+    sets (sets (replicate 16384 0) 0x1000 (y ∷ x ∷ 0 ∷ c ∷ 208 ∷ [])) 0x1800 patterns
+
+-- Graphics I, display on, backdrop 5, sprites by the low bits of register 1.
+abbrev pub spriteRegisters : ℕ → List ℕ
+spriteRegisters shape = 0x00 ∷ (0x40 + shape) ∷ 0x00 ∷ 0x20 ∷ 0x01 ∷ 0x20 ∷ 0x03 ∷ 0x05 ∷ []
+
+-- A pattern of which row n alone is set, and one that is set all over.
+abbrev pub onlyRow : ℕ → ℕ → List ℕ
+onlyRow rows n = sets (replicate rows 0) n (0xFF ∷ [])
+
+abbrev pub allSet : List ℕ
+allSet = replicate 32 0xFF
+
+-- P6: a 32-high sprite on line 0: Y 224 covers it with offset 31, which is row 15; Y 223 does not.
+abbrev pub P6 : Type 0
+P6 =
+    (colours (spriteRegisters 3) (withSprite 224 0 15 (onlyRow 16 15 ++ onlyRow 16 15)) 0 ≡ replicate 32 15 ++ replicate 224 5)
+    × (colours (spriteRegisters 3) (withSprite 223 0 15 allSet) 0 ≡ replicate 256 5)
+
+-- P7: an 8-high sprite on line 0: Y 248 covers it (row 7) and 247 does not; 255 gives row 0, and 0 does not cover.
+abbrev pub P7 : Type 0
+P7 =
+    (colours (spriteRegisters 0) (withSprite 248 100 15 (onlyRow 8 7)) 0 ≡ replicate 100 5 ++ (replicate 8 15 ++ replicate 148 5))
+    × (colours (spriteRegisters 0) (withSprite 247 100 15 allSet) 0 ≡ replicate 256 5)
+    × (colours (spriteRegisters 0) (withSprite 255 100 15 (onlyRow 8 0)) 0 ≡ replicate 100 5 ++ (replicate 8 15 ++ replicate 148 5))
+    × (colours (spriteRegisters 0) (withSprite 0 100 15 allSet) 0 ≡ replicate 256 5)
+
+-- P8: early clock, width 32, all pattern bits set: X 1 reaches column 0 only, X 0 none of the 256.
+abbrev pub P8 : Type 0
+P8 =
+    (colours (spriteRegisters 3) (withSprite 255 1 0x8F allSet) 0 ≡ 15 ∷ replicate 255 5)
+    × (colours (spriteRegisters 3) (withSprite 255 0 0x8F allSet) 0 ≡ replicate 256 5)
+
+-- P9: sprites 0, 3, 5, 9 and 12 cover line 100 side by side, the others do not, and there is no terminator.
+abbrev pub covering : ℕ → List ℕ
+covering x = 99 ∷ x ∷ 0 ∷ 15 ∷ []
+
+abbrev pub apart : List ℕ
+apart = 0 ∷ 0 ∷ 0 ∷ 15 ∷ []
+
+abbrev pub fiveSprites : List ℕ
+fiveSprites =
+    covering 0 ++ (apart ++ (apart ++ (covering 20 ++ (apart ++ (covering 40 ++ (apart ++ (apart ++ (apart ++ (covering 60 ++ (apart ++ (apart ++ covering 80)))))))))))
+
+abbrev pub withFive : List ℕ
+withFive = sets (sets (replicate 16384 0) 0x1000 fiveSprites) 0x1800 allSet
+
+abbrev pub statusAt100 : ℕ → ℕ
+statusAt100 s =
+    drawLine
+    (record { registers = spriteRegisters 0; address = 0; buffer = 0; waiting = Nothing; status = s; redraw = false })
+    withFive
+    (replicate 256 0)
+    100
+    .chip .status
+
+-- The number is taken only while 5S and F are clear: 00 becomes 4C, 80 stays 80, 45 stays 45.
+abbrev pub P9 : Type 0
+P9 = (statusAt100 0x00 ≡ 0x4C) × (statusAt100 0x80 ≡ 0x80) × (statusAt100 0x45 ≡ 0x45)
+
 -- P10: reading status 4C returns 4C and leaves 0C.
 abbrev pub P10 : Type 0
 P10 = readStatus (start .chip) ≡ record { chip = state 0x1234 0x99 Nothing 0x0C; refusal = Accepted; value = 0x4C }
+
+-- P11: all planes 0: colour 1 with external video off, 0 with it on.
+abbrev pub P11 : Type 0
+P11 =
+    (colours (0x00 ∷ 0x40 ∷ 0x00 ∷ 0x20 ∷ 0x01 ∷ 0x20 ∷ 0x03 ∷ 0x00 ∷ []) (replicate 16384 0) 96 ≡ replicate 256 1)
+    × (colours (0x01 ∷ 0x40 ∷ 0x00 ∷ 0x20 ∷ 0x01 ∷ 0x20 ∷ 0x03 ∷ 0x00 ∷ []) (replicate 16384 0) 96 ≡ replicate 256 0)
+
+-- P12: Multicolor, line 191: cell 0 of the last row of names has name 2, whose eight bytes differ; byte 7 is taken.
+abbrev pub P12 : Type 0
+P12 =
+    colours (0x00 ∷ 0x48 ∷ 0x00 ∷ 0x00 ∷ 0x01 ∷ 0x20 ∷ 0x03 ∷ 0x05 ∷ [])
+    (sets (sets (sets (replicate 16384 0) 736 (2 ∷ [])) 0x810 (0x12 ∷ 0x34 ∷ 0x56 ∷ 0x78 ∷ 0x9A ∷ 0xBC ∷ 0xDE ∷ 0xF6 ∷ [])) 0x1000 (208 ∷ []))
+    191
+    ≡ replicate 4 15 ++ (replicate 4 6 ++ replicate 248 5)
 
 -- The list of all cases.
 abbrev pub cases : List Case
@@ -100,7 +180,13 @@ cases =
     ∷ record { number = 3; claim = P3 }
     ∷ record { number = 4; claim = P4 }
     ∷ record { number = 5; claim = P5 }
+    ∷ record { number = 6; claim = P6 }
+    ∷ record { number = 7; claim = P7 }
+    ∷ record { number = 8; claim = P8 }
+    ∷ record { number = 9; claim = P9 }
     ∷ record { number = 10; claim = P10 }
+    ∷ record { number = 11; claim = P11 }
+    ∷ record { number = 12; claim = P12 }
     ∷ []
 
 -- What it means that every case of a list holds.
