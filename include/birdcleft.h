@@ -19,6 +19,7 @@ enum {
     VDP_BLOCK_SIZE = 15,
     VDP_VRAM_SIZE = 16384,
     VDP_MAP_SIZE = 2048,
+    VDP_LINE_SIZE = 256,
     VDP_SNAPSHOT_SIZE = 16406
 };
 
@@ -61,6 +62,9 @@ uint32_t vdp_end_of_display(uint8_t *block, size_t block_len);
 
 /* Whether the interrupt line is on. */
 uint32_t vdp_interrupt_line(const uint8_t *block, size_t block_len);
+
+/* Draws line number 0 to 191 into 256 bytes, one colour (0 to 15) each. Status follows the line. */
+uint32_t vdp_draw_line(uint8_t *block, size_t block_len, const uint8_t *vram, size_t vram_len, uint8_t *line, size_t line_len, uint32_t number);
 
 /* Reset: clears registers 0 and 1, status and the waiting byte. */
 uint32_t vdp_reset(uint8_t *block, size_t block_len);

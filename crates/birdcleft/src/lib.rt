@@ -9,6 +9,7 @@ use chip::Answer;
 use chip::Chip;
 use chip::Refusal;
 
+mod lines;
 mod snapshots;
 
 // 256 times the number of the refusal that the block gives: 0 where it holds a state.

@@ -15,16 +15,37 @@ use Rattle.claims.specs.Cases.{cases, AllHold}
 
 pub all-cases : AllHold cases
 unfolding tabulate modeOf anyBelow wellFormed masked value followed each nameAt patternAt coloursAt shapeOf cellOf planeColour spriteOf scanFrom spritePatternAt hits coincidence lineOf colourAt noteOf statusAfter
-all-cases =
-    (refl,
-    (refl,
-    (refl,
-    (refl,
-    (refl,
-    ((refl, refl),
-    ((refl, refl, refl, refl),
-    ((refl, refl),
-    ((refl, refl, refl),
-    (refl,
-    ((refl, refl),
-    (refl, tt))))))))))))
+all-cases = (
+  refl,
+  (
+    refl,
+    (
+      refl,
+      (
+        refl,
+        (
+          refl,
+          (
+            (refl, refl),
+            (
+              (refl, refl, refl, refl),
+              (
+                (refl, refl),
+                (
+                  (refl, refl, refl),
+                  (
+                    refl,
+                    (
+                      (refl, refl),
+                      (refl, tt),
+                    ),
+                  ),
+                ),
+              ),
+            ),
+          ),
+        ),
+      ),
+    ),
+  ),
+)
