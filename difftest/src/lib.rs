@@ -1,0 +1,9 @@
+//! Compares the library with the reference on many states and lists of calls.
+
+pub mod calls;
+pub mod library;
+pub mod lists;
+pub mod random;
+pub mod scenes;
+pub mod show;
+pub mod shrink;

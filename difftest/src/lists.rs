@@ -1,0 +1,282 @@
+//! Random cases: states drawn line by line, and long lists of calls.
+
+use crate::calls::{Call, Case, Slice, Step, FRAME, GUARD, SLICES};
+use crate::random::Random;
+use crate::scenes::{scene, status, KINDS, MASKS, MODES};
+
+/// One state: all its lines, its full draw, its snapshot and show's text. Half of the states keep
+/// status from line to line; the others set it anew for each.
+pub fn state_case(seed: u64, number: u64) -> Case {
+    let mut random = Random::new(seed, 2 * number);
+    let (mode, kind) = place(number);
+    let (mut block, vram) = scene(&mut random, mode, kind);
+    block[14] = u8::from(random.one_in(4));
+    let map = some_map(&mut random);
+    let mut notes = vec![0; 192];
+    random.fill(&mut notes);
+    let before = block[13];
+    let mut steps: Vec<Step> = Vec::new();
+    let anew = random.one_in(2);
+    for line in 0..192 {
+        if anew {
+            steps.push(Call::PutStatus(status(&mut random)).into());
+        }
+        steps.push(Call::DrawLine(line).into());
+    }
+    steps.push(Call::PutStatus(before).into());
+    steps.push(Call::WriteSnapshot.into());
+    if number % 8 == 0 {
+        steps.push(Call::Show.into());
+    }
+    if FRAME {
+        // Refresh with any map, then whole, then refresh with nothing to do.
+        let calls = [Call::Refresh, Call::PutStatus(before), Call::FullDraw, Call::Refresh];
+        steps.extend(calls.into_iter().map(Step::from));
+    }
+    Case {
+        block,
+        vram,
+        map,
+        notes,
+        steps,
+    }
+}
+
+/// A map with few bits, or any.
+fn some_map(random: &mut Random) -> Vec<u8> {
+    let mut map = vec![0; 2048];
+    if random.one_in(8) {
+        random.fill(&mut map);
+    }
+    for _ in 0..random.pick(&[0, 1, 2, 4, 16]) {
+        map[random.below(2048)] |= 1 << random.below(8);
+    }
+    map
+}
+
+/// Mode and kind of a state: all pairs in turn.
+pub fn place(number: u64) -> (usize, usize) {
+    let (modes, kinds) = (MODES.len() as u64, KINDS.len() as u64);
+    ((number % modes) as usize, (number / modes % kinds) as usize)
+}
+
+/// A list of hundreds of calls.
+pub fn list_case(seed: u64, number: u64) -> Case {
+    let mut random = Random::new(seed, 2 * number + 1);
+    // Mostly modes with sprites, and sprite pictures.
+    let mode = random.pick(&[0, 0, 0, 1, 1, 1, 2, 2, 3, 4, 5]);
+    let kind = random.below(KINDS.len());
+    let (mut block, vram) = scene(&mut random, mode, kind);
+    block[14] = u8::from(!random.one_in(8));
+    let map = some_map(&mut random);
+    let mut notes = vec![0; 192];
+    random.fill(&mut notes);
+    let mut maker = Maker {
+        registers: block[..8].to_vec(),
+        random,
+        steps: Vec::new(),
+    };
+    let length = 200 + maker.random.below(200);
+    while maker.steps.len() < length {
+        maker.some();
+    }
+    Case {
+        block,
+        vram,
+        map,
+        notes,
+        steps: maker.steps,
+    }
+}
+
+/// Makes a list; knows about the registers, so as to write where it matters.
+struct Maker {
+    random: Random,
+    registers: Vec<u8>,
+    steps: Vec<Step>,
+}
+
+impl Maker {
+    /// A few calls that belong together.
+    fn some(&mut self) {
+        match self.random.below(200) {
+            0..=79 => self.write(),
+            80..=95 => self.read(),
+            96..=99 => self.register(),
+            100..=102 => {
+                let byte = self.random.byte();
+                self.push(Call::ControlWrite(byte));
+            }
+            103..=110 => {
+                let byte = self.random.byte();
+                self.push(Call::DataWrite(byte));
+            }
+            111..=116 => self.push(Call::DataRead),
+            117..=124 => self.push(Call::StatusRead),
+            125..=129 => self.push(Call::EndOfDisplay),
+            130..=134 => self.push(Call::InterruptLine),
+            135 => self.restart(),
+            136..=147 => self.line(),
+            148..=157 => self.snapshot(),
+            158..=159 if FRAME => self.push(Call::FullDraw),
+            160..=199 if FRAME => self.push(Call::Refresh),
+            _ => self.line(),
+        }
+    }
+
+    /// Adds a call, now and then one with something wrong.
+    fn push(&mut self, call: Call) {
+        let mut step = Step::from(call);
+        if !call.lent().is_empty() && self.random.one_in(10) {
+            for _ in 0..1 + self.random.below(3) {
+                let slice = self.random.pick(call.lent());
+                let length = self.wrong_length(slice);
+                step.lengths.retain(|(named, _)| *named != slice);
+                step.lengths.push((slice, length));
+            }
+        }
+        if call.place().is_some() && self.random.one_in(16) {
+            step.spoil = Some(self.wrong_block());
+        }
+        self.steps.push(step);
+    }
+
+    fn wrong_length(&mut self, slice: Slice) -> usize {
+        let right = SLICES[slice as usize].2;
+        let less = self.random.below(right);
+        let more = right + 1 + self.random.below(GUARD);
+        self.random.pick(&[0, 1, right - 1, right + 1, less, more])
+    }
+
+    /// A byte that leaves no state, or only might.
+    fn wrong_block(&mut self) -> (usize, u8) {
+        let byte = self.random.byte();
+        match self.random.below(6) {
+            0 => (9, 0x40 | byte),
+            1 => (11, byte.max(2)),
+            2 => (11, 0),
+            3 => (14, byte.max(2)),
+            _ => {
+                let (register, bit) =
+                    self.random
+                        .pick(&[(0, 4), (0, 0x80), (1, 4), (2, 0x10), (4, 8), (5, 0x80), (6, 8)]);
+                (register, byte | bit)
+            }
+        }
+    }
+
+    fn pair(&mut self, first: u8, second: u8) {
+        // Some pairs come after a lone first byte.
+        if !self.random.one_in(20) {
+            self.push(Call::StatusRead);
+        }
+        self.push(Call::ControlWrite(first));
+        self.push(Call::ControlWrite(second));
+    }
+
+    /// An address in one of the tables, or anywhere.
+    fn address(&mut self) -> usize {
+        let of = |register: usize| usize::from(self.registers[register]);
+        let (names, colours, patterns) = (of(2) * 1024, of(3) * 64, of(4) * 2048);
+        let (attributes, sprites) = (of(5) * 128, of(6) * 2048);
+        let (start, length) = match self.random.below(12) {
+            0..=4 => (attributes, 128),
+            5 => (attributes, 16),
+            6 => (names, 960),
+            7 => (colours, 32),
+            8 => (patterns, 2048),
+            9 => (sprites, 2048),
+            10 => (16380, 8),
+            _ => (0, 16384),
+        };
+        (start + self.random.below(length)) % 16384
+    }
+
+    fn write(&mut self) {
+        let at = self.address();
+        self.pair((at % 256) as u8, 0x40 | (at / 256) as u8);
+        for _ in 0..1 + self.random.below(4) {
+            let byte = match self.random.below(6) {
+                0 => 208,
+                1 => 0,
+                _ => self.random.byte(),
+            };
+            self.push(Call::DataWrite(byte));
+        }
+    }
+
+    fn read(&mut self) {
+        let at = self.address();
+        self.pair((at % 256) as u8, (at / 256) as u8);
+        for _ in 0..1 + self.random.below(4) {
+            self.push(Call::DataRead);
+        }
+    }
+
+    /// A register write that mostly leaves the display on in one mode.
+    fn register(&mut self) {
+        let number = self.random.below(8);
+        let mut byte = self.random.byte();
+        match number {
+            0 if !self.random.one_in(4) => byte &= !2,
+            1 if !self.random.one_in(6) => byte = byte & !0x18 | 0x40,
+            _ if self.random.one_in(3) => byte = self.registers[number],
+            _ => {}
+        }
+        let second = 0x80 | self.random.byte() & 0x78 | number as u8;
+        self.pair(byte, second);
+        self.registers[number] = byte & MASKS[number];
+    }
+
+    /// Power-up or reset, with the display turned on after it.
+    fn restart(&mut self) {
+        if self.random.one_in(4) {
+            self.push(Call::PowerUp);
+            self.registers.fill(0);
+        } else {
+            self.push(Call::Reset);
+            self.registers[0] = 0;
+        }
+        if FRAME && self.random.one_in(4) {
+            self.push(Call::Refresh);
+        }
+        let byte = 0x40 | self.random.byte() & 0xE3;
+        self.pair(byte, 0x81);
+        self.registers[1] = byte;
+    }
+
+    fn line(&mut self) {
+        let number = self.random.below(192) as u32;
+        let number = match self.random.below(12) {
+            0 => self.random.pick(&[192, 193, 255, 256, 511, 65536, u32::MAX]),
+            1 => self.random.pick(&[0, 191]),
+            _ => number,
+        };
+        self.push(Call::DrawLine(number));
+    }
+
+    /// Writes one, or reads one that may have been harmed.
+    fn snapshot(&mut self) {
+        if self.random.one_in(2) {
+            return self.push(Call::WriteSnapshot);
+        }
+        if self.random.one_in(3) {
+            let (byte, any) = (self.random.byte(), self.random.below(16406));
+            let at = self
+                .random
+                .pick(&[16384, 16385, 16386, 16388, 16389, 16390, 16393, 16395, 16396, any, any]);
+            let trailer = 16398 + self.random.below(8);
+            let at = if self.random.one_in(4) { trailer } else { at };
+            let sum = !self.random.one_in(3);
+            self.push(Call::PutSnapshot(at, byte, sum));
+        }
+        self.push(Call::ReadSnapshot);
+        if self.random.one_in(8) {
+            self.push(Call::Show);
+        }
+        // The next one is right again.
+        if self.random.one_in(2) {
+            self.steps.push(Call::WriteSnapshot.into());
+        }
+    }
+}

@@ -1,0 +1,85 @@
+//! Makes a failing case small: fewer calls, then fewer bytes that are not zero.
+
+use crate::calls::{run, Case, Reached};
+use std::time::{Duration, Instant};
+
+/// No more than so long for one case.
+const PATIENCE: Duration = Duration::from_secs(20);
+
+/// The smallest case found that still fails.
+pub fn shrink(case: &Case) -> Case {
+    let start = Instant::now();
+    let fails = |case: &Case| run(case, &mut Reached::default()).is_err();
+    let mut best = case.clone();
+    if let Err(difference) = run(&best, &mut Reached::default()) {
+        best.steps.truncate(difference.step + 1);
+    }
+    loop {
+        let before = best.steps.len();
+        let mut size = (before / 2).max(1);
+        loop {
+            let mut at = 0;
+            while at < best.steps.len() && start.elapsed() < PATIENCE {
+                let mut smaller = best.clone();
+                smaller.steps.drain(at..(at + size).min(best.steps.len()));
+                if fails(&smaller) {
+                    best = smaller;
+                } else {
+                    at += size;
+                }
+            }
+            if size == 1 {
+                break;
+            }
+            size /= 2;
+        }
+        if best.steps.len() == before || start.elapsed() >= PATIENCE {
+            break;
+        }
+    }
+    plain_steps(&mut best, &fails);
+    for which in 0..4 {
+        zeros(&mut best, which, &fails, start);
+    }
+    best
+}
+
+/// Takes wrong lengths and spoilt blocks away where they do not matter.
+fn plain_steps(best: &mut Case, fails: &impl Fn(&Case) -> bool) {
+    for at in 0..best.steps.len() {
+        let mut smaller = best.clone();
+        smaller.steps[at] = smaller.steps[at].call.into();
+        if smaller.steps[at] != best.steps[at] && fails(&smaller) {
+            *best = smaller;
+        }
+    }
+}
+
+fn bytes(case: &mut Case, which: usize) -> &mut Vec<u8> {
+    match which {
+        0 => &mut case.vram,
+        1 => &mut case.map,
+        2 => &mut case.notes,
+        _ => &mut case.block,
+    }
+}
+
+/// Sets ever smaller stretches of bytes to zero.
+fn zeros(best: &mut Case, which: usize, fails: &impl Fn(&Case) -> bool, start: Instant) {
+    let length = bytes(best, which).len();
+    let mut size = length;
+    while size > 0 && start.elapsed() < PATIENCE {
+        for at in (0..length).step_by(size) {
+            let range = at..(at + size).min(length);
+            if bytes(best, which)[range.clone()].iter().all(|&byte| byte == 0) {
+                continue;
+            }
+            let mut smaller = best.clone();
+            bytes(&mut smaller, which)[range].fill(0);
+            if fails(&smaller) {
+                *best = smaller;
+            }
+        }
+        size /= 2;
+    }
+}

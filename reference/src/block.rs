@@ -1,0 +1,184 @@
+//! The same calls with the state as a lent block of 15 bytes: the 14 of the
+//! snapshot, then the redraw mark. Each gives 256 * refusal + value.
+
+use crate::refusal::{self, refused, Answer};
+use crate::snapshot::{
+    self, snapshot_tests, state_from_bytes, state_to_bytes, SNAPSHOT_BYTES, STATE_BYTES,
+};
+use crate::state::{State, FRAME_BYTES, LINE_BYTES, MAP_BYTES, NOTE_BYTES, VRAM_BYTES};
+use crate::{frame, ports};
+
+pub const BLOCK_BYTES: usize = STATE_BYTES + 1;
+
+/// The state a block stands for, or none when its contents are wrong.
+pub fn read_block(block: &[u8]) -> Option<State> {
+    let (&mark, bytes) = block.split_last()?;
+    match mark {
+        0 => state_from_bytes(bytes, false),
+        1 => state_from_bytes(bytes, true),
+        _ => None,
+    }
+}
+
+/// Puts a state into a block of 15 bytes.
+fn write_block(block: &mut [u8], state: &State) {
+    if let [bytes @ .., mark] = block {
+        bytes.copy_from_slice(&state_to_bytes(state));
+        *mark = u8::from(state.redraw);
+    }
+}
+
+fn block_length(block: &[u8]) -> (u8, bool) {
+    (refusal::SLICE, block.len() != BLOCK_BYTES)
+}
+
+fn vram_length(vram: &[u8]) -> (u8, bool) {
+    (refusal::VRAM, vram.len() != VRAM_BYTES)
+}
+
+fn slice_length(slice: &[u8], length: usize) -> (u8, bool) {
+    (refusal::SLICE, slice.len() != length)
+}
+
+/// Tests the other slices' lengths together with the block, in the one order;
+/// then runs the call on the block's state and puts the next state back.
+fn over_block(
+    block: &mut [u8],
+    lengths: &[(u8, bool)],
+    call: impl FnOnce(&mut State) -> Answer,
+) -> u32 {
+    match tested_state(block, lengths) {
+        Err(no) => no.number(),
+        Ok(mut state) => {
+            let answer = call(&mut state);
+            write_block(block, &state);
+            answer.number()
+        }
+    }
+}
+
+/// The block's state, or the first refusal of its tests and the lengths.
+fn tested_state(block: &[u8], lengths: &[(u8, bool)]) -> Result<State, Answer> {
+    let mut tests = lengths.to_vec();
+    tests.push(block_length(block));
+    if let Some(no) = refused(&tests) {
+        return Err(no);
+    }
+    read_block(block).ok_or(Answer::refused(refusal::STATE))
+}
+
+/// The block's old contents may be anything.
+pub fn vdp_power_up(block: &mut [u8], vram: &mut [u8]) -> u32 {
+    if let Some(no) = refused(&[vram_length(vram), block_length(block)]) {
+        return no.number();
+    }
+    let mut state = State::default();
+    let answer = ports::power_up(&mut state, vram);
+    write_block(block, &state);
+    answer.number()
+}
+
+pub fn vdp_control_write(block: &mut [u8], vram: &[u8], byte: u8) -> u32 {
+    over_block(block, &[vram_length(vram)], |state| {
+        ports::control_write(state, vram, byte)
+    })
+}
+
+pub fn vdp_data_write(block: &mut [u8], vram: &mut [u8], map: &mut [u8], byte: u8) -> u32 {
+    let lengths = [vram_length(vram), slice_length(map, MAP_BYTES)];
+    over_block(block, &lengths, |state| {
+        ports::data_write(state, vram, map, byte)
+    })
+}
+
+pub fn vdp_data_read(block: &mut [u8], vram: &[u8]) -> u32 {
+    over_block(block, &[vram_length(vram)], |state| {
+        ports::data_read(state, vram)
+    })
+}
+
+pub fn vdp_status_read(block: &mut [u8]) -> u32 {
+    over_block(block, &[], ports::status_read)
+}
+
+pub fn vdp_end_of_display(block: &mut [u8]) -> u32 {
+    over_block(block, &[], ports::end_of_display)
+}
+
+pub fn vdp_interrupt_line(block: &[u8]) -> u32 {
+    match tested_state(block, &[]) {
+        Err(no) => no.number(),
+        Ok(state) => ports::interrupt_line(&state).number(),
+    }
+}
+
+pub fn vdp_reset(block: &mut [u8]) -> u32 {
+    over_block(block, &[], ports::reset)
+}
+
+pub fn vdp_draw_line(block: &mut [u8], vram: &[u8], line: &mut [u8], number: u32) -> u32 {
+    let lengths = [vram_length(vram), slice_length(line, LINE_BYTES)];
+    over_block(block, &lengths, |state| {
+        frame::draw_line(state, vram, line, number)
+    })
+}
+
+/// The lengths that full draw and refresh test.
+fn frame_lengths(vram: &[u8], map: &[u8], frame: &[u8], notes: &[u8]) -> [(u8, bool); 4] {
+    [
+        vram_length(vram),
+        slice_length(map, MAP_BYTES),
+        slice_length(frame, FRAME_BYTES),
+        slice_length(notes, NOTE_BYTES),
+    ]
+}
+
+pub fn vdp_full_draw(
+    block: &mut [u8],
+    vram: &[u8],
+    map: &mut [u8],
+    frame: &mut [u8],
+    notes: &mut [u8],
+) -> u32 {
+    let lengths = frame_lengths(vram, map, frame, notes);
+    over_block(block, &lengths, |state| {
+        frame::full_draw(state, vram, map, frame, notes)
+    })
+}
+
+pub fn vdp_refresh(
+    block: &mut [u8],
+    vram: &[u8],
+    map: &mut [u8],
+    frame: &mut [u8],
+    notes: &mut [u8],
+) -> u32 {
+    let lengths = frame_lengths(vram, map, frame, notes);
+    over_block(block, &lengths, |state| {
+        frame::refresh(state, vram, map, frame, notes)
+    })
+}
+
+/// The block's old contents may be anything; the snapshot's are tested.
+pub fn vdp_read_snapshot(block: &mut [u8], vram: &mut [u8], snapshot: &[u8]) -> u32 {
+    let mut tests = vec![vram_length(vram), block_length(block)];
+    tests.extend(snapshot_tests(snapshot));
+    if let Some(no) = refused(&tests) {
+        return no.number();
+    }
+    let mut state = State::default();
+    let answer = snapshot::read_snapshot(&mut state, vram, snapshot);
+    write_block(block, &state);
+    answer.number()
+}
+
+pub fn vdp_write_snapshot(block: &[u8], vram: &[u8], snapshot: &mut [u8]) -> u32 {
+    let lengths = [
+        vram_length(vram),
+        (refusal::SNAPSHOT, snapshot.len() != SNAPSHOT_BYTES),
+    ];
+    match tested_state(block, &lengths) {
+        Err(no) => no.number(),
+        Ok(state) => snapshot::write_snapshot(&state, vram, snapshot).number(),
+    }
+}

@@ -1,0 +1,55 @@
+//! Known mistakes that can be planted, one at a time, in the running thread.
+
+use std::cell::Cell;
+
+/// The terminator counts only when its sprite covers the line.
+pub const TERMINATOR_MUST_COVER: u32 = 1;
+/// Y from 225 to 254 never covers a line.
+pub const HIGH_Y_IS_BELOW: u32 = 2;
+/// Sprites of colour 0 do not count among the four.
+pub const ONLY_COLOURED_COUNT: u32 = 3;
+/// A drawn sprite with no visible column fetches nothing but its Y.
+pub const OFF_SIDE_NOT_FETCHED: u32 = 4;
+/// Refresh takes 5S from the notes of the due lines only.
+pub const FIFTH_FROM_REDRAWN: u32 = 5;
+/// Reset leaves the redraw mark alone.
+pub const RESET_FORGETS_MARK: u32 = 6;
+/// Data write leaves the map alone.
+pub const WRITE_FORGETS_MAP: u32 = 7;
+/// Data read at 16,383 leaves the address there.
+pub const READ_DOES_NOT_WRAP: u32 = 8;
+/// Graphics II uses the first third of its tables for all lines.
+pub const THIRDS_FORGOTTEN: u32 = 9;
+/// Sprites of colour 0 do not take part in coincidence.
+pub const ONLY_COLOURED_COINCIDE: u32 = 10;
+
+/// The highest fault number.
+pub const LAST: u32 = 10;
+
+/// A few words for each fault, from 1 up.
+pub const NAMES: [&str; LAST as usize] = [
+    "the terminator counts only where it covers",
+    "Y 225 to 254 is always below the screen",
+    "only coloured sprites count among the four",
+    "a sprite off to the side is not fetched",
+    "5S comes from the redrawn lines only",
+    "reset leaves the redraw mark",
+    "a data write leaves the map",
+    "a data read does not wrap",
+    "Graphics II forgets its thirds",
+    "only coloured sprites coincide",
+];
+
+thread_local! {
+    static PLANTED: Cell<u32> = const { Cell::new(0) };
+}
+
+/// Plants a fault for this thread; 0 takes it away.
+pub fn plant(number: u32) {
+    PLANTED.with(|cell| cell.set(number));
+}
+
+/// Whether that fault is the planted one.
+pub fn planted(number: u32) -> bool {
+    PLANTED.with(|cell| cell.get() == number)
+}

@@ -1,0 +1,131 @@
+//! Drawing into lent slices: one line, all lines, or the lines due.
+
+use crate::faults::{self, planted};
+use crate::line::{
+    fetches, note_coincidence, note_fifth, picture, status_after, status_with_fifth,
+};
+use crate::refusal::{self, refused, Answer};
+use crate::state::{
+    byte_at, map_has, put_at, State, C, FRAME_BYTES, LINES, LINE_BYTES, MAP_BYTES, NOTE_BYTES,
+    VRAM_BYTES,
+};
+
+/// Draws one line into the lent 256 bytes and updates status from it.
+pub fn draw_line(state: &mut State, vram: &[u8], line: &mut [u8], number: u32) -> Answer {
+    if let Some(no) = refused(&[
+        (refusal::VRAM, vram.len() != VRAM_BYTES),
+        (refusal::SLICE, line.len() != LINE_BYTES),
+        (refusal::STATE, !state.is_well_formed()),
+        (refusal::LINE, number > 191),
+    ]) {
+        return no;
+    }
+    let (colours, note) = picture(state, vram, (number % 256) as u8);
+    line.copy_from_slice(&colours);
+    state.status = status_after(state.status, note);
+    Answer::accepted(0)
+}
+
+/// The tests that full draw and refresh share.
+fn refused_frame(
+    state: &State,
+    vram: &[u8],
+    map: &[u8],
+    frame: &[u8],
+    notes: &[u8],
+) -> Option<Answer> {
+    refused(&[
+        (refusal::VRAM, vram.len() != VRAM_BYTES),
+        (refusal::SLICE, map.len() != MAP_BYTES),
+        (refusal::SLICE, frame.len() != FRAME_BYTES),
+        (refusal::SLICE, notes.len() != NOTE_BYTES),
+        (refusal::STATE, !state.is_well_formed()),
+    ])
+}
+
+/// Draws all lines and notes in order, with status going along, and leaves
+/// the map and the redraw mark clear.
+pub fn full_draw(
+    state: &mut State,
+    vram: &[u8],
+    map: &mut [u8],
+    frame: &mut [u8],
+    notes: &mut [u8],
+) -> Answer {
+    if let Some(no) = refused_frame(state, vram, map, frame, notes) {
+        return no;
+    }
+    for number in 0..LINES {
+        let note = write_line(state, vram, frame, notes, number);
+        state.status = status_after(state.status, note);
+    }
+    map.fill(0);
+    state.redraw = false;
+    Answer::accepted(0)
+}
+
+/// Puts one line's colours and note in their places; gives the note.
+fn write_line(state: &State, vram: &[u8], frame: &mut [u8], notes: &mut [u8], number: usize) -> u8 {
+    let (colours, note) = picture(state, vram, number as u8);
+    for (x, colour) in colours.into_iter().enumerate() {
+        put_at(frame, 256 * number + x, colour);
+    }
+    put_at(notes, number, note);
+    note
+}
+
+/// A line is due with the redraw mark set or a fetched byte in the map.
+pub fn is_due(state: &State, vram: &[u8], map: &[u8], number: usize) -> bool {
+    let fetched = fetches(state, vram, number as u8);
+    state.redraw || fetched.into_iter().any(|at| map_has(map, at))
+}
+
+/// Redraws the lines due and no other, then takes status from all the notes,
+/// clears map and mark and answers how many lines were due.
+pub fn refresh(
+    state: &mut State,
+    vram: &[u8],
+    map: &mut [u8],
+    frame: &mut [u8],
+    notes: &mut [u8],
+) -> Answer {
+    if let Some(no) = refused_frame(state, vram, map, frame, notes) {
+        return no;
+    }
+    let mut due = [false; LINES];
+    for (number, due) in due.iter_mut().enumerate() {
+        *due = is_due(state, vram, map, number);
+    }
+    for number in (0..LINES).filter(|&number| due[number]) {
+        write_line(state, vram, frame, notes, number);
+    }
+    state.status = status_from_notes(state.status, notes, &due);
+    map.fill(0);
+    state.redraw = false;
+    Answer::accepted(due.into_iter().filter(|&due| due).count() as u8)
+}
+
+/// Status goes through the notes of all lines in order, redrawn or kept.
+fn status_from_notes(status: u8, notes: &[u8], due: &[bool; LINES]) -> u8 {
+    let mut status = status;
+    for (number, &due) in due.iter().enumerate() {
+        let note = byte_at(notes, number);
+        status = if planted(faults::FIFTH_FROM_REDRAWN) {
+            status_fifth_from_due(status, note, due)
+        } else {
+            status_after(status, note)
+        };
+    }
+    status
+}
+
+/// The planted mistake: 5S from this note only when its line was due.
+fn status_fifth_from_due(status: u8, note: u8, due: bool) -> u8 {
+    let fifth = if due { note_fifth(note) } else { None };
+    let status = status_with_fifth(status, fifth);
+    if note_coincidence(note) {
+        status | C
+    } else {
+        status
+    }
+}

@@ -1,0 +1,54 @@
+//! Refusal numbers and the order in which they are tested.
+
+/// VRAM slice of wrong length.
+pub const VRAM: u8 = 1;
+/// Another slice of wrong length (line, map, frame, notes, block).
+pub const SLICE: u8 = 2;
+/// Ill-formed state or block contents.
+pub const STATE: u8 = 3;
+/// Line number too high.
+pub const LINE: u8 = 4;
+/// Snapshot slice of wrong length.
+pub const SNAPSHOT: u8 = 5;
+/// Trailer mark or a distance wrong.
+pub const TRAILER: u8 = 6;
+/// Snapshot sum wrong.
+pub const SUM: u8 = 7;
+
+/// Which refusal goes before which.
+pub const ORDER: [u8; 7] = [VRAM, SLICE, SNAPSHOT, TRAILER, SUM, STATE, LINE];
+
+/// What a call answers: its refusal number (0 when accepted) and a value.
+/// The value is the byte read, the interrupt line or the count of redrawn
+/// lines, and 0 where the call has none of these or is refused.
+#[derive(Clone, Copy, Debug, PartialEq, Eq)]
+pub struct Answer {
+    pub refusal: u8,
+    pub value: u8,
+}
+
+impl Answer {
+    pub fn accepted(value: u8) -> Answer {
+        Answer { refusal: 0, value }
+    }
+
+    pub fn refused(refusal: u8) -> Answer {
+        Answer { refusal, value: 0 }
+    }
+
+    /// The one number the C host gets.
+    pub fn number(self) -> u32 {
+        256 * u32::from(self.refusal) + u32::from(self.value)
+    }
+}
+
+/// Takes pairs of refusal number and "this is wrong"; gives the refusal that
+/// comes first in the order, or none when nothing is wrong.
+pub fn refused(tests: &[(u8, bool)]) -> Option<Answer> {
+    for number in ORDER {
+        if tests.contains(&(number, true)) {
+            return Some(Answer::refused(number));
+        }
+    }
+    None
+}

@@ -1,0 +1,141 @@
+//! Things lent, and short ways to call on them.
+#![allow(dead_code)]
+
+use reference::block::*;
+use reference::State;
+
+/// Everything that can be lent to a call.
+#[derive(Clone, Debug, PartialEq, Eq)]
+pub struct Lent {
+    pub block: Vec<u8>,
+    pub vram: Vec<u8>,
+    pub map: Vec<u8>,
+    pub frame: Vec<u8>,
+    pub notes: Vec<u8>,
+    pub line: Vec<u8>,
+    pub number: u32,
+    pub snapshot: Vec<u8>,
+}
+
+impl Lent {
+    /// Power-up state, clean slices, and a right snapshot of it.
+    pub fn new() -> Lent {
+        let mut lent = Lent {
+            block: vec![0; 15],
+            vram: vec![0; 16384],
+            map: vec![0; 2048],
+            frame: vec![0; 49152],
+            notes: vec![0; 192],
+            line: vec![0; 256],
+            number: 0,
+            snapshot: vec![0; 16406],
+        };
+        assert_eq!(vdp_power_up(&mut lent.block, &mut lent.vram), 0);
+        assert_eq!(lent.write_snapshot(), 0);
+        lent
+    }
+
+    /// The given registers, and mark and map clear.
+    pub fn with_registers(registers: [u8; 8]) -> Lent {
+        let mut lent = Lent::new();
+        lent.block[..8].copy_from_slice(&registers);
+        lent.block[14] = 0;
+        lent
+    }
+
+    pub fn state(&self) -> State {
+        read_block(&self.block).expect("a right block")
+    }
+
+    pub fn status(&self) -> u8 {
+        self.block[13]
+    }
+
+    pub fn control(&mut self, byte: u8) -> u32 {
+        vdp_control_write(&mut self.block, &self.vram, byte)
+    }
+
+    pub fn write(&mut self, byte: u8) -> u32 {
+        vdp_data_write(&mut self.block, &mut self.vram, &mut self.map, byte)
+    }
+
+    pub fn write_at(&mut self, at: u16, byte: u8) {
+        assert_eq!(self.control((at % 256) as u8), 0);
+        assert_eq!(self.control((at / 256) as u8 + 64), 0);
+        assert_eq!(self.write(byte), 0);
+    }
+
+    pub fn read(&mut self) -> u32 {
+        vdp_data_read(&mut self.block, &self.vram)
+    }
+
+    pub fn draw(&mut self, number: u32) -> u32 {
+        vdp_draw_line(&mut self.block, &self.vram, &mut self.line, number)
+    }
+
+    pub fn full_draw(&mut self) -> u32 {
+        vdp_full_draw(
+            &mut self.block,
+            &self.vram,
+            &mut self.map,
+            &mut self.frame,
+            &mut self.notes,
+        )
+    }
+
+    pub fn refresh(&mut self) -> u32 {
+        vdp_refresh(
+            &mut self.block,
+            &self.vram,
+            &mut self.map,
+            &mut self.frame,
+            &mut self.notes,
+        )
+    }
+
+    pub fn write_snapshot(&mut self) -> u32 {
+        vdp_write_snapshot(&self.block, &self.vram, &mut self.snapshot)
+    }
+
+    pub fn read_snapshot(&mut self) -> u32 {
+        vdp_read_snapshot(&mut self.block, &mut self.vram, &self.snapshot)
+    }
+
+    /// Puts a sprite's four attributes where register 5 says.
+    pub fn sprite(&mut self, number: usize, attributes: [u8; 4]) {
+        let at = usize::from(self.block[5]) * 128 + 4 * number;
+        self.vram[at..at + 4].copy_from_slice(&attributes);
+    }
+}
+
+/// Graphics I with all tables apart: names 0000, sprite patterns 0800,
+/// attributes 1000, patterns 1800, colours 2000. No sprites.
+pub fn sprite_board(register_1: u8) -> Lent {
+    let mut lent = Lent::with_registers([0, 0x40 | register_1, 0, 0x80, 3, 0x20, 1, 0]);
+    lent.sprite(0, [208, 0, 0, 0]);
+    lent
+}
+
+/// Small repeatable random numbers.
+pub struct Random(pub u64);
+
+impl Random {
+    pub fn next(&mut self) -> u32 {
+        self.0 ^= self.0 << 13;
+        self.0 ^= self.0 >> 7;
+        self.0 ^= self.0 << 17;
+        (self.0 >> 24) as u32
+    }
+
+    pub fn below(&mut self, end: u32) -> u32 {
+        self.next() % end
+    }
+
+    pub fn byte(&mut self) -> u8 {
+        self.next() as u8
+    }
+
+    pub fn chance(&mut self, one_in: u32) -> bool {
+        self.below(one_in) == 0
+    }
+}

@@ -1,0 +1,164 @@
+//! One small case for each planted fault: the right answer, and the wrong one
+//! that the fault gives.
+
+mod common;
+
+use common::{sprite_board, Lent};
+use reference::block::*;
+use reference::faults;
+use std::fmt::Debug;
+
+/// Runs the case without and with the fault.
+fn shows<T: PartialEq + Debug>(fault: u32, case: impl Fn() -> T, right: T, wrong: T) {
+    faults::plant(0);
+    assert_eq!(case(), right);
+    faults::plant(fault);
+    assert_eq!(case(), wrong);
+    faults::plant(0);
+}
+
+/// A board whose sprite name 0 is a full square, with these sprites; unused
+/// ones lie below the screen without ending the list.
+fn board(register_1: u8, sprites: &[[u8; 4]]) -> Lent {
+    let mut lent = sprite_board(register_1);
+    lent.vram[0x0800..0x0820].fill(0xFF);
+    for number in 0..32 {
+        lent.sprite(number, *sprites.get(number).unwrap_or(&[192, 0, 0, 0]));
+    }
+    lent
+}
+
+#[test]
+fn fault_1_terminator() {
+    let case = || {
+        let mut lent = board(0, &[[208, 0, 0, 0], [49, 10, 0, 7]]);
+        lent.draw(50);
+        lent.line[10]
+    };
+    shows(faults::TERMINATOR_MUST_COVER, case, 1, 7);
+}
+
+#[test]
+fn fault_2_high_y() {
+    for y in [225, 240, 249, 254] {
+        let case = || {
+            let mut lent = board(3, &[[y, 10, 0, 7]]);
+            lent.draw(0);
+            lent.line[10]
+        };
+        shows(faults::HIGH_Y_IS_BELOW, case, 7, 1);
+    }
+    for y in [224, 255] {
+        let case = || {
+            let mut lent = board(3, &[[y, 10, 0, 7]]);
+            lent.draw(0);
+            lent.line[10]
+        };
+        shows(faults::HIGH_Y_IS_BELOW, case, 7, 7);
+    }
+}
+
+#[test]
+fn fault_3_uncoloured_among_the_four() {
+    let case = || {
+        let mut sprites = [[49, 10, 0, 7]; 6];
+        for (number, sprite) in sprites.iter_mut().enumerate() {
+            sprite[1] = 20 * number as u8;
+        }
+        sprites[1][3] = 0;
+        let mut lent = board(0, &sprites);
+        lent.draw(50);
+        (lent.status(), lent.line[80], lent.line[100])
+    };
+    shows(
+        faults::ONLY_COLOURED_COUNT,
+        case,
+        (0x44, 1, 1),
+        (0x45, 7, 1),
+    );
+}
+
+/// From X 60 to X 20 the sprite leaves the screen and has to be wiped out;
+/// from X 10 to X 20 it is off before and after, and its lines are still due.
+#[test]
+fn fault_4_off_side() {
+    let case = |from| {
+        let mut lent = board(0, &[[49, from, 0, 0x87]]);
+        lent.full_draw();
+        lent.write_at(0x1001, 20);
+        (lent.refresh(), lent.frame[50 * 256 + 28])
+    };
+    shows(faults::OFF_SIDE_NOT_FETCHED, || case(60), (8, 1), (0, 7));
+    shows(faults::OFF_SIDE_NOT_FETCHED, || case(10), (8, 1), (0, 1));
+}
+
+#[test]
+fn fault_5_fifth_from_redrawn() {
+    let case = || {
+        let mut lent = board(0, &[[49, 10, 0, 7]; 5]);
+        lent.full_draw();
+        vdp_status_read(&mut lent.block);
+        lent.block[13] = 0;
+        lent.write_at(0x0000, 0);
+        (lent.refresh(), lent.status())
+    };
+    shows(faults::FIFTH_FROM_REDRAWN, case, (8, 0x64), (8, 0x20));
+}
+
+#[test]
+fn fault_6_reset_and_the_mark() {
+    let case = || {
+        let mut lent = board(0, &[]);
+        lent.full_draw();
+        vdp_reset(&mut lent.block);
+        lent.refresh()
+    };
+    shows(faults::RESET_FORGETS_MARK, case, 192, 0);
+}
+
+#[test]
+fn fault_7_write_and_the_map() {
+    let case = || {
+        let mut lent = board(0, &[]);
+        lent.write_at(0x0000, 1);
+        lent.refresh()
+    };
+    shows(faults::WRITE_FORGETS_MAP, case, 8, 0);
+}
+
+#[test]
+fn fault_8_read_at_the_top() {
+    let case = || {
+        let mut lent = Lent::new();
+        lent.block[8..10].copy_from_slice(&[0xFF, 0x3F]);
+        lent.read();
+        lent.state().address
+    };
+    shows(faults::READ_DOES_NOT_WRAP, case, 0, 16383);
+}
+
+#[test]
+fn fault_9_thirds() {
+    let case = || {
+        let mut lent = Lent::with_registers([2, 0x40, 15, 0xFF, 3, 0x7F, 0, 0]);
+        lent.vram[0x3F80] = 208;
+        lent.vram[0x2000] = 0x03;
+        lent.vram[0x2800] = 0x04;
+        lent.vram[0x3000] = 0x05;
+        [0, 64, 128].map(|number| {
+            lent.draw(number);
+            lent.line[0]
+        })
+    };
+    shows(faults::THIRDS_FORGOTTEN, case, [3, 4, 5], [3, 3, 3]);
+}
+
+#[test]
+fn fault_10_coincidence_of_uncoloured() {
+    let case = || {
+        let mut lent = board(0, &[[49, 10, 0, 0], [49, 10, 0, 7]]);
+        lent.draw(50);
+        lent.status()
+    };
+    shows(faults::ONLY_COLOURED_COINCIDE, case, 0x20, 0x00);
+}

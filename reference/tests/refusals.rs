@@ -1,0 +1,378 @@
+//! Every refusal of every call, and which goes first when more apply.
+
+mod common;
+
+use common::Lent;
+use reference::block::*;
+use reference::*;
+
+#[derive(Clone, Copy, Debug, PartialEq, Eq)]
+enum Call {
+    PowerUp,
+    ControlWrite,
+    DataWrite,
+    DataRead,
+    StatusRead,
+    EndOfDisplay,
+    InterruptLine,
+    Reset,
+    DrawLine,
+    FullDraw,
+    Refresh,
+    ReadSnapshot,
+    WriteSnapshot,
+}
+
+use Call::*;
+
+const CALLS: [Call; 13] = [
+    PowerUp,
+    ControlWrite,
+    DataWrite,
+    DataRead,
+    StatusRead,
+    EndOfDisplay,
+    InterruptLine,
+    Reset,
+    DrawLine,
+    FullDraw,
+    Refresh,
+    ReadSnapshot,
+    WriteSnapshot,
+];
+
+/// One thing wrong with what is lent.
+#[derive(Clone, Copy, Debug, PartialEq, Eq)]
+enum Harm {
+    Vram,
+    BlockLength,
+    Line,
+    Map,
+    Frame,
+    Notes,
+    Contents,
+    Number,
+    SnapshotLength,
+    Trailer,
+    Sum,
+    SnapshotContents,
+}
+
+use Harm::*;
+
+fn refusal(harm: Harm) -> u32 {
+    match harm {
+        Vram => 1,
+        BlockLength | Line | Map | Frame | Notes => 2,
+        Contents | SnapshotContents => 3,
+        Number => 4,
+        SnapshotLength => 5,
+        Trailer => 6,
+        Sum => 7,
+    }
+}
+
+/// What each call tests.
+fn tested(call: Call) -> Vec<Harm> {
+    match call {
+        PowerUp => vec![Vram, BlockLength],
+        ControlWrite | DataRead => vec![Vram, BlockLength, Contents],
+        DataWrite => vec![Vram, BlockLength, Map, Contents],
+        StatusRead | EndOfDisplay | InterruptLine | Reset => vec![BlockLength, Contents],
+        DrawLine => vec![Vram, BlockLength, Line, Contents, Number],
+        FullDraw | Refresh => vec![Vram, BlockLength, Map, Frame, Notes, Contents],
+        ReadSnapshot => vec![
+            Vram,
+            BlockLength,
+            SnapshotLength,
+            Trailer,
+            Sum,
+            SnapshotContents,
+        ],
+        WriteSnapshot => vec![Vram, BlockLength, SnapshotLength, Contents],
+    }
+}
+
+/// Different ways of doing the same harm.
+const WAYS: usize = 12;
+
+fn wrong_length(slice: &mut Vec<u8>, way: usize) {
+    let length = slice.len();
+    match way % 3 {
+        0 => slice.truncate(length - 1),
+        1 => slice.push(0),
+        _ => slice.clear(),
+    }
+}
+
+/// The 14 state bytes made wrong in one of 12 ways.
+fn wrong_state(bytes: &mut [u8], way: usize) {
+    match way % 12 {
+        0 => bytes[0] = 0x04,
+        1 => bytes[1] = 0x04,
+        2 => bytes[2] = 0x10,
+        3 => bytes[4] = 0x08,
+        4 => bytes[5] = 0x80,
+        5 => bytes[6] = 0x08,
+        6 => bytes[9] = 0x40,
+        7 => bytes[11] = 2,
+        8 => bytes[11] = 255,
+        9 => (bytes[11], bytes[12]) = (0, 1),
+        10 => bytes[9] = 0xFF,
+        _ => bytes[..8].fill(0xFF),
+    }
+}
+
+fn set_sum(snapshot: &mut [u8]) {
+    let sum: u32 = snapshot[..16404].iter().map(|&byte| u32::from(byte)).sum();
+    snapshot[16404..].copy_from_slice(&(sum as u16).to_le_bytes());
+}
+
+/// Does the harms, those to contents before those to lengths.
+fn harmed(harms: &[Harm], way: usize) -> Lent {
+    let mut lent = good();
+    let has = |harm| harms.contains(&harm);
+    if has(Contents) {
+        wrong_state(&mut lent.block[..14], way);
+    }
+    if has(SnapshotContents) {
+        wrong_state(&mut lent.snapshot[16384..16398], way);
+    }
+    if has(Trailer) {
+        lent.snapshot[16398 + way % 6] ^= 0x80;
+    }
+    set_sum(&mut lent.snapshot);
+    if has(Sum) {
+        lent.snapshot[16404 + way % 2] ^= 1;
+    }
+    if has(Number) {
+        lent.number = [192, 255, 256, u32::MAX][way % 4];
+    }
+    for (harm, slice) in [
+        (Vram, &mut lent.vram),
+        (BlockLength, &mut lent.block),
+        (Line, &mut lent.line),
+        (Map, &mut lent.map),
+        (Frame, &mut lent.frame),
+        (Notes, &mut lent.notes),
+        (SnapshotLength, &mut lent.snapshot),
+    ] {
+        if has(harm) {
+            wrong_length(slice, way);
+        }
+    }
+    lent
+}
+
+/// A state in which every call would change something.
+fn good() -> Lent {
+    let mut lent = Lent::with_registers([0, 0x60, 1, 2, 3, 4, 5, 6]);
+    lent.block[8..15].copy_from_slice(&[0x34, 0x12, 0x56, 1, 0x81, 0xE7, 0]);
+    lent.vram.fill(0x5A);
+    lent.map.fill(0x01);
+    lent.frame.fill(0xEE);
+    lent.notes.fill(0xEE);
+    lent.line.fill(0xEE);
+    lent.number = 191;
+    lent
+}
+
+fn run(call: Call, lent: &mut Lent) -> u32 {
+    match call {
+        PowerUp => vdp_power_up(&mut lent.block, &mut lent.vram),
+        ControlWrite => lent.control(0x87),
+        DataWrite => lent.write(0x99),
+        DataRead => lent.read(),
+        StatusRead => vdp_status_read(&mut lent.block),
+        EndOfDisplay => vdp_end_of_display(&mut lent.block),
+        InterruptLine => vdp_interrupt_line(&lent.block),
+        Reset => vdp_reset(&mut lent.block),
+        DrawLine => lent.draw(lent.number),
+        FullDraw => lent.full_draw(),
+        Refresh => lent.refresh(),
+        ReadSnapshot => lent.read_snapshot(),
+        WriteSnapshot => lent.write_snapshot(),
+    }
+}
+
+/// The same call on a state struct.
+fn run_direct(call: Call, state: &mut State, lent: &mut Lent) -> Answer {
+    match call {
+        PowerUp => power_up(state, &mut lent.vram),
+        ControlWrite => control_write(state, &lent.vram, 0x87),
+        DataWrite => data_write(state, &mut lent.vram, &mut lent.map, 0x99),
+        DataRead => data_read(state, &lent.vram),
+        StatusRead => status_read(state),
+        EndOfDisplay => end_of_display(state),
+        InterruptLine => interrupt_line(state),
+        Reset => reset(state),
+        DrawLine => draw_line(state, &lent.vram, &mut lent.line, lent.number),
+        FullDraw => {
+            let Lent {
+                vram,
+                map,
+                frame,
+                notes,
+                ..
+            } = lent;
+            full_draw(state, vram, map, frame, notes)
+        }
+        Refresh => {
+            let Lent {
+                vram,
+                map,
+                frame,
+                notes,
+                ..
+            } = lent;
+            refresh(state, vram, map, frame, notes)
+        }
+        ReadSnapshot => read_snapshot(state, &mut lent.vram, &lent.snapshot),
+        WriteSnapshot => write_snapshot(state, &lent.vram, &mut lent.snapshot),
+    }
+}
+
+/// The number that goes first by the paper's order.
+fn expected(harms: &[Harm]) -> u32 {
+    [1, 2, 5, 6, 7, 3, 4]
+        .into_iter()
+        .find(|&number| harms.iter().any(|&harm| refusal(harm) == number))
+        .unwrap_or(0)
+}
+
+/// All choices of some of these harms.
+fn choices(harms: &[Harm]) -> Vec<Vec<Harm>> {
+    (0..1usize << harms.len())
+        .map(|bits| {
+            let chosen = |(at, harm): (usize, &Harm)| (bits & 1 << at != 0).then_some(*harm);
+            harms.iter().enumerate().filter_map(chosen).collect()
+        })
+        .collect()
+}
+
+#[test]
+fn every_choice_of_harms_over_blocks() {
+    for call in CALLS {
+        for harms in choices(&tested(call)) {
+            for way in 0..WAYS {
+                let before = harmed(&harms, way);
+                let mut after = before.clone();
+                let number = run(call, &mut after);
+                if harms.is_empty() {
+                    assert_eq!(number / 256, 0, "{call:?}");
+                    break;
+                }
+                assert_eq!(number, 256 * expected(&harms), "{call:?} {harms:?} {way}");
+                assert!(before == after, "{call:?} {harms:?} {way}");
+            }
+        }
+    }
+}
+
+#[test]
+fn every_choice_of_harms_directly() {
+    for call in CALLS {
+        let mut direct = tested(call);
+        direct.retain(|&harm| harm != BlockLength);
+        for harms in choices(&direct) {
+            for way in 0..WAYS {
+                let before = harmed(&harms, way);
+                let mut after = before.clone();
+                let given = if harms.contains(&Contents) {
+                    ill_formed(way)
+                } else {
+                    good().state()
+                };
+                let mut state = given;
+                let answer = run_direct(call, &mut state, &mut after);
+                if harms.is_empty() {
+                    assert_eq!(answer.refusal, 0, "{call:?}");
+                    break;
+                }
+                assert_eq!(
+                    answer.number(),
+                    256 * expected(&harms),
+                    "{call:?} {harms:?} {way}"
+                );
+                assert_eq!(state, given);
+                assert!(before == after, "{call:?} {harms:?} {way}");
+            }
+        }
+    }
+}
+
+/// A state that breaks one mask or has too high an address.
+fn ill_formed(way: usize) -> State {
+    let mut state = good().state();
+    match way % 8 {
+        0 => state.registers[0] |= 0x04,
+        1 => state.registers[1] |= 0x04,
+        2 => state.registers[2] |= 0x80,
+        3 => state.registers[4] |= 0x08,
+        4 => state.registers[5] |= 0x80,
+        5 => state.registers[6] |= 0x10,
+        6 => state.address = 16384,
+        _ => state.address = 65535,
+    }
+    state
+}
+
+#[test]
+fn direct_and_block_agree_when_accepted() {
+    for call in CALLS {
+        let mut by_block = good();
+        let mut direct = good();
+        let mut state = direct.state();
+        let number = run(call, &mut by_block);
+        assert_eq!(
+            run_direct(call, &mut state, &mut direct).number(),
+            number,
+            "{call:?}"
+        );
+        assert_eq!(by_block.state(), state, "{call:?}");
+        by_block.block = direct.block.clone();
+        assert!(by_block == direct, "{call:?}");
+    }
+}
+
+#[test]
+fn a_redraw_mark_of_neither_0_nor_1() {
+    for call in CALLS {
+        for mark in [2, 128, 255] {
+            let mut lent = good();
+            lent.block[14] = mark;
+            let before = lent.clone();
+            let number = run(call, &mut lent);
+            if call == PowerUp || call == ReadSnapshot {
+                assert_eq!(number, 0);
+            } else {
+                assert_eq!(number, 3 * 256, "{call:?}");
+                assert!(before == lent);
+            }
+        }
+    }
+}
+
+#[test]
+fn power_up_and_reading_take_any_old_state() {
+    for way in 0..WAYS {
+        let mut lent = harmed(&[Contents], way);
+        assert_eq!(run(PowerUp, &mut lent), 0);
+        let mut lent = harmed(&[Contents], way);
+        assert_eq!(run(ReadSnapshot, &mut lent), 0);
+        let mut state = ill_formed(way);
+        assert_eq!(run_direct(PowerUp, &mut state, &mut lent).number(), 0);
+        assert_eq!(state, State::at_power_up());
+        let mut state = ill_formed(way);
+        assert_eq!(run_direct(ReadSnapshot, &mut state, &mut lent).number(), 0);
+    }
+}
+
+#[test]
+fn a_block_with_a_waiting_zero_is_right() {
+    let mut lent = good();
+    lent.block[11] = 1;
+    lent.block[12] = 0;
+    assert_eq!(lent.state().waiting, Some(0));
+    assert_eq!(run(StatusRead, &mut lent), 0xE7);
+}

@@ -1,0 +1,252 @@
+//! Long random lists of calls: refresh keeps the frame right, and nothing
+//! panics on any input. Each planted fault is seen somewhere.
+
+mod common;
+
+use common::{Lent, Random};
+use reference::block::*;
+use reference::{faults, show};
+
+/// VRAM in which many sprites cover many lines.
+fn busy(random: &mut Random) -> Lent {
+    let mut lent = Lent::new();
+    for byte in &mut lent.vram {
+        *byte = random.byte();
+    }
+    lent.block[0] = [0, 2, 1, 3][random.below(4) as usize];
+    lent.block[1] = 0x40 | (random.byte() & 3) | [0, 0, 0, 8, 16][random.below(5) as usize];
+    for (register, mask) in [(2, 0x0F), (3, 0xFF), (4, 7), (5, 0x7F), (6, 7), (7, 0xFF)] {
+        lent.block[register] = random.byte() & mask;
+    }
+    crowd(&mut lent, random);
+    assert_eq!(lent.full_draw(), 0);
+    lent
+}
+
+/// Sprites near each other, some uncoloured, some over the top or left edge.
+fn crowd(lent: &mut Lent, random: &mut Random) {
+    let top = random.below(192) as u8;
+    for number in 0..32 {
+        let y = match random.below(12) {
+            0 => random.byte(),
+            1 if number > 6 => 208,
+            2..=4 => 224 + random.below(32) as u8,
+            _ => top.wrapping_add(random.below(40) as u8),
+        };
+        let early = if random.chance(3) { 0x80 } else { 0 };
+        let colour = if random.chance(3) {
+            0
+        } else {
+            random.byte() & 15
+        };
+        let x = if random.chance(2) {
+            random.below(40) as u8
+        } else {
+            random.byte()
+        };
+        lent.sprite(number, [y, x, random.byte(), early | colour]);
+    }
+}
+
+/// One random port call; now and then a slice has the wrong length.
+fn step(lent: &mut Lent, random: &mut Random) -> u32 {
+    let byte = random.byte();
+    match random.below(40) {
+        0..=13 => {
+            let attributes = u16::from(lent.block[5]) * 128 + random.below(128) as u16;
+            let at = if random.chance(2) {
+                attributes
+            } else {
+                random.below(16384) as u16
+            };
+            lent.control((at % 256) as u8);
+            lent.control((at / 256) as u8 + 64);
+            lent.write(byte)
+        }
+        14..=18 => lent.write(byte),
+        19..=23 => lent.read(),
+        24..=28 => lent.control(byte % 128),
+        29 => vdp_status_read(&mut lent.block),
+        30 => vdp_end_of_display(&mut lent.block),
+        31 => vdp_interrupt_line(&lent.block),
+        32 => lent.draw(u32::from(byte)),
+        33 if random.chance(8) => lent.control(byte),
+        34 if random.chance(20) => vdp_reset(&mut lent.block),
+        35 => lent.write_snapshot(),
+        36 if random.chance(30) => lent.read_snapshot(),
+        37 => vdp_data_write(&mut lent.block, &mut lent.vram, &mut [], byte),
+        38 => vdp_data_write(&mut lent.block, &mut [], &mut lent.map, byte),
+        _ => vdp_refresh(
+            &mut lent.block,
+            &lent.vram,
+            &mut lent.map,
+            &mut [],
+            &mut lent.notes,
+        ),
+    }
+}
+
+/// After any list of calls refresh ends where a full draw would.
+fn refresh_equals_full_draw(seed: u64, rounds: u32) -> Result<u32, String> {
+    let mut random = Random(seed);
+    let mut partly = 0;
+    for round in 0..rounds {
+        let mut lent = busy(&mut random);
+        for _ in 0..4 {
+            for _ in 0..random.below(12) {
+                step(&mut lent, &mut random);
+            }
+            let mut full = lent.clone();
+            full.full_draw();
+            let count = lent.refresh();
+            full.snapshot = lent.snapshot.clone();
+            if lent != full {
+                return Err(format!("round {round}"));
+            }
+            partly += u32::from(count > 0 && count < 192);
+        }
+    }
+    Ok(partly)
+}
+
+#[test]
+fn refresh_ends_where_a_full_draw_would() {
+    let partly = refresh_equals_full_draw(0x1234_5678_9ABC_DEF1, 60).expect("equal");
+    assert!(partly > 20, "only {partly} refreshes were partial");
+}
+
+#[test]
+fn full_draw_is_its_lines() {
+    let mut random = Random(77);
+    for _ in 0..6 {
+        let mut lent = busy(&mut random);
+        lent.block[13] = random.byte() & 0x3F;
+        let mut by_line = lent.clone();
+        lent.full_draw();
+        for number in 0..192 {
+            assert_eq!(by_line.draw(number), 0);
+            let at = 256 * number as usize;
+            assert_eq!(by_line.line, lent.frame[at..at + 256]);
+        }
+        assert_eq!(by_line.status(), lent.status());
+    }
+}
+
+#[test]
+fn a_line_depends_only_on_its_fetches() {
+    let mut random = Random(4242);
+    for _ in 0..200 {
+        let lent = busy(&mut random);
+        let number = random.below(192);
+        let fetched = reference::line::fetches(&lent.state(), &lent.vram, number as u8);
+        let mut other = lent.clone();
+        for (at, byte) in other.vram.iter_mut().enumerate() {
+            if !fetched.contains(&at) {
+                *byte = random.byte();
+            }
+        }
+        let mut lent = lent;
+        lent.draw(number);
+        other.draw(number);
+        assert_eq!(lent.line, other.line);
+        assert_eq!(lent.status(), other.status());
+        assert_eq!(
+            fetched,
+            reference::line::fetches(&other.state(), &other.vram, number as u8)
+        );
+    }
+}
+
+#[test]
+fn no_input_panics() {
+    let mut random = Random(99);
+    let mut slice = |right: usize| {
+        let length = match random.below(6) {
+            0 => random.below(300) as usize,
+            1 => right + 1,
+            _ => right,
+        };
+        let top = if random.chance(2) { 255 } else { 3 };
+        (0..length)
+            .map(|_| random.byte() & top)
+            .collect::<Vec<u8>>()
+    };
+    for round in 0..300u32 {
+        let mut block = slice(15);
+        let (mut vram, mut map) = (slice(16384), slice(2048));
+        let (mut frame, mut notes, mut line) = (slice(49152), slice(192), slice(256));
+        let mut snapshot = slice(16406);
+        let number = round.wrapping_mul(0x0101_0101);
+        show(&snapshot);
+        vdp_read_snapshot(&mut block, &mut vram, &snapshot);
+        vdp_control_write(&mut block, &vram, 7);
+        vdp_data_write(&mut block, &mut vram, &mut map, 7);
+        vdp_data_read(&mut block, &vram);
+        vdp_draw_line(&mut block, &vram, &mut line, number);
+        vdp_refresh(&mut block, &vram, &mut map, &mut frame, &mut notes);
+        vdp_full_draw(&mut block, &vram, &mut map, &mut frame, &mut notes);
+        vdp_write_snapshot(&block, &vram, &mut snapshot);
+        vdp_interrupt_line(&block);
+        vdp_status_read(&mut block);
+        vdp_end_of_display(&mut block);
+        vdp_reset(&mut block);
+        vdp_power_up(&mut block, &mut vram);
+    }
+}
+
+/// All that a list of calls with refreshes leaves and answers.
+fn trace(seed: u64) -> Vec<(Vec<u32>, Lent)> {
+    let mut random = Random(seed);
+    let mut trace = Vec::new();
+    for _ in 0..12 {
+        let mut lent = busy(&mut random);
+        let mut answers = Vec::new();
+        for turn in 0..60 {
+            answers.push(step(&mut lent, &mut random));
+            if turn % 3 == 0 {
+                answers.push(lent.refresh());
+            }
+        }
+        lent.block[8..10].copy_from_slice(&[0xFF, 0x3F]);
+        answers.push(lent.read());
+        answers.push(lent.refresh());
+        vdp_status_read(&mut lent.block);
+        answers.push(vdp_data_write(
+            &mut lent.block,
+            &mut lent.vram,
+            &mut lent.map,
+            1,
+        ));
+        answers.push(lent.refresh());
+        trace.push((answers, lent.clone()));
+        vdp_reset(&mut lent.block);
+        trace.push((vec![lent.refresh()], lent));
+    }
+    trace
+}
+
+#[test]
+fn each_planted_fault_shows() {
+    let right = trace(31337);
+    for number in 1..=faults::LAST {
+        faults::plant(number);
+        let wrong = trace(31337);
+        faults::plant(0);
+        assert!(right != wrong, "fault {number} was not seen");
+    }
+    assert!(right == trace(31337));
+}
+
+#[test]
+fn faults_of_refresh_break_the_equality() {
+    for number in [
+        faults::OFF_SIDE_NOT_FETCHED,
+        faults::FIFTH_FROM_REDRAWN,
+        faults::WRITE_FORGETS_MAP,
+    ] {
+        faults::plant(number);
+        let result = refresh_equals_full_draw(0x1234_5678_9ABC_DEF1, 60);
+        faults::plant(0);
+        assert!(result.is_err(), "fault {number} was not seen");
+    }
+}
