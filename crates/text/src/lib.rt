@@ -1,0 +1,10 @@
+// The text that shows a snapshot, piece by piece, into lent slices.
+mod put;
+mod range;
+mod runs;
+mod status;
+
+pub use range::Joined;
+pub use range::end;
+pub use range::step;
+pub use status::status_line;
