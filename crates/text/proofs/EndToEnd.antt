@@ -14,11 +14,11 @@ use lib.ListN.{length}
 use Rattle.chip.specs.State.{wellFormed}
 use Rattle.chip.specs.declared.state.Chip.{Chip}
 use Rattle.chip.proofs.Laws.Lists.{length-tabulate}
-use Rattle.scanline.specs.Calls.{colours}
+use Rattle.scanline.specs.Calls.{colours, drawLineLine}
 use Rattle.text.specs.Runs.{runs}
 use Rattle.text.specs.Lines.{statusText}
 use Rattle.text.specs.Show.{linesFrom, showText}
-use Rattle.text.specs.Pieces.{drawn, lineDrawn, stepsWritten, pieces}
+use Rattle.text.specs.Pieces.{drawn, stepsWritten, pieces}
 use Rattle.text.proofs.Laws.Calls.{status-fits}
 use Rattle.text.proofs.Laws.Pieces.{line-drawn, drawn-is, lines-same, steps-are}
 
@@ -26,7 +26,7 @@ pub end-to-end : (c : Chip) (vram slice out : List ℕ) → wellFormed c ≡ tru
 unfolding pieces showText runs linesFrom
 end-to-end c vram slice out ok full wide room =
     let f : ℕ → List ℕ = colours (c .registers) vram in
-    let g : ℕ → List ℕ = lineDrawn c vram slice in
+    let g : ℕ → List ℕ = drawLineLine c vram slice in
     let same : (l : ℕ) → _ = line-drawn vram slice full wide c ok in
     ap₂ _++_
     (status-fits (c .status) (drawn c vram slice 192 .status) out (omega arith)

@@ -5,12 +5,16 @@ use mathlib.Core.List.{List, []}
 use lib.Dec.{eqb, leb}
 use lib.ListN.{length}
 use Rattle.text.specs.Runs.{same}
-use Rattle.text.specs.Lines.{statusText, rangeText}
+use Rattle.text.specs.Lines.{refusedText, statusText, rangeText}
 use Rattle.text.specs.declared.range.Joined.{Joined}
 
 -- The bytes that a range's text has room in.
 abbrev pub room : ℕ
 room = 2048
+
+-- A refusal has at most 12 bytes.
+unfoldable pub refusedWritten : ℕ → List ℕ → List ℕ
+refusedWritten n out = cond (leb 12 (length out)) (refusedText n) []
 
 -- The status line has 13 bytes.
 unfoldable pub statusWritten : ℕ → ℕ → List ℕ → List ℕ

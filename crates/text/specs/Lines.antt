@@ -5,7 +5,10 @@ use lib.Dec.{eqb}
 use Rattle.text.specs.Numbers.{decimal, twoHex}
 use Rattle.text.specs.Runs.{Run, runs}
 
--- `status ` and `lines `
+-- `refused `, `status ` and `lines `
+abbrev pub refusedWord : List ℕ
+refusedWord = 114 ∷ 101 ∷ 102 ∷ 117 ∷ 115 ∷ 101 ∷ 100 ∷ 32 ∷ []
+
 abbrev pub statusWord : List ℕ
 statusWord = 115 ∷ 116 ∷ 97 ∷ 116 ∷ 117 ∷ 115 ∷ 32 ∷ []
 
@@ -15,6 +18,10 @@ linesWord = 108 ∷ 105 ∷ 110 ∷ 101 ∷ 115 ∷ 32 ∷ []
 -- `status XX YY`
 unfoldable pub statusText : ℕ → ℕ → List ℕ
 statusText before after = statusWord ++ (twoHex before ++ (32 ∷ (twoHex after ++ (10 ∷ []))))
+
+-- `refused N`
+unfoldable pub refusedText : ℕ → List ℕ
+refusedText n = refusedWord ++ (decimal n ++ (10 ∷ []))
 
 -- A run, with a space before it: ` COUNT*COLOUR`.
 unfoldable pub runText : ℕ → ℕ → List ℕ

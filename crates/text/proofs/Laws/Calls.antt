@@ -8,8 +8,17 @@ use borrow.Author.Tests.{eq-eqb, ne-eqb, le-leb, lt-leb}
 use Rattle.chip.proofs.Laws.Ranges.{and-false}
 use Rattle.snapshot.specs.Lists.{putAt}
 use Rattle.text.specs.Runs.{same}
-use Rattle.text.specs.Lines.{statusText, rangeText}
-use Rattle.text.specs.Calls.{statusWritten, endWritten, stepStarts, stepWritten, stepped}
+use Rattle.text.specs.Lines.{refusedText, statusText, rangeText}
+use Rattle.text.specs.Calls.{refusedWritten, statusWritten, endWritten, stepStarts, stepWritten, stepped}
+
+module _ (number : ℕ) (out : List ℕ) where
+  pub refused-short : length out < 12 → refusedWritten number out ≡ []
+  unfolding refusedWritten
+  refused-short h = rw (lt-leb 12 (length out) h)
+
+  pub refused-fits : 12 ≤ length out → refusedWritten number out ≡ refusedText number
+  unfolding refusedWritten
+  refused-fits h = rw (le-leb 12 (length out) h)
 
 module _ (before after : ℕ) (out : List ℕ) where
   pub status-short : length out < 13 → statusWritten before after out ≡ []

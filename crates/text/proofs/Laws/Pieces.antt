@@ -13,12 +13,12 @@ use Rattle.chip.specs.declared.refusal.Refusal.{Refusal}
 use Rattle.chip.specs.declared.refusal.Refusal.the-variants.{Accepted}
 use Rattle.chip.proofs.Laws.Refusals.{passed}
 use Rattle.scanline.specs.Notes.{statusAfter}
-use Rattle.scanline.specs.Calls.{noteAt, colours, drawLine, drawLineRefusal}
+use Rattle.scanline.specs.Calls.{noteAt, colours, drawLine, drawLineLine, drawLineRefusal}
 use Rattle.text.specs.Runs.{runsAfter, same}
 use Rattle.text.specs.Lines.{rangeText, rangesText}
 use Rattle.text.specs.Show.{statusThrough, linesFrom}
 use Rattle.text.specs.Calls.{stepStarts}
-use Rattle.text.specs.Pieces.{drawn, lineDrawn, stepsWritten}
+use Rattle.text.specs.Pieces.{drawn, stepsWritten}
 use Rattle.text.proofs.Laws.Calls.{end-fits, starts-fits, written-none, written-some}
 
 module _ (vram slice : List ℕ) (full : length vram ≡ 16384) (wide : length slice ≡ 256) where
@@ -31,7 +31,7 @@ module _ (vram slice : List ℕ) (full : length vram ≡ 16384) (wide : length s
 
   module _ (c : Chip) (ok : wellFormed c ≡ true) where
     -- the line that is drawn has the line's colours
-    pub line-drawn : (l : ℕ) → l < 192 → lineDrawn c vram slice l ≡ colours (c .registers) vram l
+    pub line-drawn : (l : ℕ) → l < 192 → drawLineLine c vram slice l ≡ colours (c .registers) vram l
     line-drawn l h = ap (λ (r : Refusal). ifAccepted r (colours (c .registers) vram l) slice) (accepted c ok l (omega arith))
 
     -- only status changes
