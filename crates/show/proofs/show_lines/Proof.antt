@@ -1,126 +1,97 @@
+-- `show_lines` is safe and ends.
+use Prim.Native.Nat.{_≤_, _-_}
+use mathlib.Core.Path.{_≡_}
+use lib.ListN.{length}
+use borrow.Author.Needs.{needs}
 use Rattle.show.proofs.show_lines.Statement.{statement}
 use Rattle.show.proofs.show_lines.Tie as tie
-use Rattle.show.proofs.show_lines.Reads as reads
-use Rattle.show.proofs.show_lines.Lts as lts
-use Rattle.chip.proofs.copy.Reads as copy-reads
-use Rattle.scanline.proofs.draw_line.Reads as draw-line-reads
-use Rattle.show.proofs.print.Reads as print-reads
-use Rattle.text.proofs.end.Reads as end-reads
-use Rattle.text.proofs.step.Reads as step-reads
 
 abbrev Inv-loop : tie.InvT-loop
-Inv-loop chip vram out₀ line₀ range₀ first₀ last₀ out line range first last = ?
+Inv-loop chip vram out₀ line₀ range₀ first₀ last₀ out line range first last = (last ≤ 191) × (length out ≡ 2048) × (length line ≡ 256) × (length range ≡ 256)
 
 abbrev μ-loop : tie.MeasureT-loop
-μ-loop chip vram out₀ line₀ range₀ first₀ last₀ out line range first last = ?
+μ-loop chip vram out₀ line₀ range₀ first₀ last₀ out line range first last = 191 - last
 
--- src/main.rt:31:37
 slice-aggregate-draw-line : tie.Need-slice-aggregate-draw-line Inv-loop μ-loop
-slice-aggregate-draw-line c = ?
+slice-aggregate-draw-line c = search needs
 
--- src/main.rt:31:5
 draw-line-requires : tie.Need-draw-line-requires Inv-loop μ-loop
-draw-line-requires c κs = ?
+draw-line-requires c κs = search needs
 
--- src/main.rt:34:5
 loop-holds : tie.Need-loop-holds Inv-loop μ-loop
-loop-holds c = ?
+loop-holds c = search needs
 
--- src/main.rt:35:41
 slice-aggregate-draw-line-2 : tie.Need-slice-aggregate-draw-line-2 Inv-loop μ-loop
-slice-aggregate-draw-line-2 c = ?
+slice-aggregate-draw-line-2 c = search needs
 
--- src/main.rt:35:52
 cast-draw-line : tie.Need-cast-draw-line Inv-loop μ-loop
-cast-draw-line c = ?
+cast-draw-line c = search needs
 
--- src/main.rt:35:52
 add-draw-line : tie.Need-add-draw-line Inv-loop μ-loop
-add-draw-line c = ?
+add-draw-line c = search needs
 
--- src/main.rt:35:9
 draw-line-requires-2 : tie.Need-draw-line-requires-2 Inv-loop μ-loop
-draw-line-requires-2 c κs = ?
+draw-line-requires-2 c κs = search needs
 
--- src/main.rt:36:46
 slice-aggregate-step : tie.Need-slice-aggregate-step Inv-loop μ-loop
-slice-aggregate-step c = ?
+slice-aggregate-step c = search needs
 
--- src/main.rt:36:54
 slice-aggregate-step-2 : tie.Need-slice-aggregate-step-2 Inv-loop μ-loop
-slice-aggregate-step-2 c = ?
+slice-aggregate-step-2 c = search needs
 
--- src/main.rt:36:61
 slice-aggregate-step-3 : tie.Need-slice-aggregate-step-3 Inv-loop μ-loop
-slice-aggregate-step-3 c = ?
+slice-aggregate-step-3 c = search needs
 
--- src/main.rt:36:13
 step-requires : tie.Need-step-requires Inv-loop μ-loop
-step-requires c κs = ?
+step-requires c κs = search needs
 
--- src/main.rt:37:15
 slice-aggregate-print : tie.Need-slice-aggregate-print Inv-loop μ-loop
-slice-aggregate-print c = ?
+slice-aggregate-print c = search needs
 
--- src/main.rt:37:9
 print-requires : tie.Need-print-requires Inv-loop μ-loop
-print-requires c κs = ?
+print-requires c κs = search needs
 
--- src/main.rt:38:9
 add-last : tie.Need-add-last Inv-loop μ-loop
-add-last c = ?
+add-last c = search needs
 
--- src/main.rt:41:24
 slice-aggregate-copy : tie.Need-slice-aggregate-copy Inv-loop μ-loop
-slice-aggregate-copy c = ?
+slice-aggregate-copy c = search needs
 
--- src/main.rt:41:36
 slice-aggregate-copy-2 : tie.Need-slice-aggregate-copy-2 Inv-loop μ-loop
-slice-aggregate-copy-2 c = ?
+slice-aggregate-copy-2 c = search needs
 
--- src/main.rt:41:13
 copy-requires : tie.Need-copy-requires Inv-loop μ-loop
-copy-requires c κs = ?
+copy-requires c κs = search needs
 
--- src/main.rt:34:5
 loop-less : tie.Need-loop-less Inv-loop μ-loop
-loop-less c = ?
+loop-less c = search needs
 
--- src/main.rt:34:5
 loop-again : tie.Need-loop-again Inv-loop μ-loop
-loop-again c = ?
+loop-again c = search needs
 
--- src/main.rt:34:5
 loop-less-2 : tie.Need-loop-less-2 Inv-loop μ-loop
-loop-less-2 c = ?
+loop-less-2 c = search needs
 
--- src/main.rt:34:5
 loop-again-2 : tie.Need-loop-again-2 Inv-loop μ-loop
-loop-again-2 c = ?
+loop-again-2 c = search needs
 
--- src/main.rt:44:42
 slice-aggregate-end : tie.Need-slice-aggregate-end Inv-loop μ-loop
-slice-aggregate-end c = ?
+slice-aggregate-end c = search needs
 
--- src/main.rt:44:50
 slice-aggregate-end-2 : tie.Need-slice-aggregate-end-2 Inv-loop μ-loop
-slice-aggregate-end-2 c = ?
+slice-aggregate-end-2 c = search needs
 
--- src/main.rt:44:9
 end-requires : tie.Need-end-requires Inv-loop μ-loop
-end-requires c κs = ?
+end-requires c κs = search needs
 
--- src/main.rt:45:11
 slice-aggregate-print-2 : tie.Need-slice-aggregate-print-2 Inv-loop μ-loop
-slice-aggregate-print-2 c = ?
+slice-aggregate-print-2 c = search needs
 
--- src/main.rt:45:5
 print-requires-2 : tie.Need-print-requires-2 Inv-loop μ-loop
-print-requires-2 c κs = ?
+print-requires-2 c κs = search needs
 
--- src/main.rt:27:1
 returns : tie.Need-returns Inv-loop μ-loop
-returns c = ?
+returns c = search needs
 
 pub show-lines-spec : {M : Type 1} → statement M
 show-lines-spec =

@@ -1,42 +1,37 @@
+-- `status_after` is safe and ends.
+use Prim.Native.Nat.{_≤_, _-_}
+use mathlib.Core.Path.{_≡_}
+use lib.ListN.{length}
+use borrow.Author.Needs.{needs}
 use Rattle.show.proofs.status_after.Statement.{statement}
 use Rattle.show.proofs.status_after.Tie as tie
-use Rattle.show.proofs.status_after.Reads as reads
-use Rattle.show.proofs.status_after.Lts as lts
-use Rattle.scanline.proofs.draw_line.Reads as draw-line-reads
 
 abbrev Inv-loop : tie.InvT-loop
-Inv-loop vram line₀ next₀ l₀ line next l = ?
+Inv-loop vram line₀ next₀ l₀ line next l = (l ≤ 192) × (length line ≡ 256)
 
 abbrev μ-loop : tie.MeasureT-loop
-μ-loop vram line₀ next₀ l₀ line next l = ?
+μ-loop vram line₀ next₀ l₀ line next l = 192 - l
 
--- src/main.rt:18:5
 loop-holds : tie.Need-loop-holds Inv-loop μ-loop
-loop-holds c = ?
+loop-holds c = search needs
 
--- src/main.rt:19:54
 slice-aggregate-draw-line : tie.Need-slice-aggregate-draw-line Inv-loop μ-loop
-slice-aggregate-draw-line c = ?
+slice-aggregate-draw-line c = search needs
 
--- src/main.rt:19:13
 draw-line-requires : tie.Need-draw-line-requires Inv-loop μ-loop
-draw-line-requires c κs = ?
+draw-line-requires c κs = search needs
 
--- src/main.rt:21:9
 add-l : tie.Need-add-l Inv-loop μ-loop
-add-l c = ?
+add-l c = search needs
 
--- src/main.rt:18:5
 loop-less : tie.Need-loop-less Inv-loop μ-loop
-loop-less c = ?
+loop-less c = search needs
 
--- src/main.rt:18:5
 loop-again : tie.Need-loop-again Inv-loop μ-loop
-loop-again c = ?
+loop-again c = search needs
 
--- src/main.rt:14:1
 returns : tie.Need-returns Inv-loop μ-loop
-returns c = ?
+returns c = search needs
 
 pub status-after-spec : {M : Type 1} → statement M
 status-after-spec =
