@@ -125,20 +125,19 @@ def text_screen():
 
 def night():
     """Graphics I: a town at night under a moon, with large magnified sprites and stars at the top edge."""
-    machine = Machine([0x00, 0x43, 0x02, 0x10, 0x00, 0x07, 0x03, 0x04])
+    machine = Machine([0x00, 0x43, 0x02, 0x10, 0x00, 0x07, 0x03, 0x04], 0x80)
     names, colours = 0x0800, 0x0400
-    # 8 patterns share a colour byte: 0 sky, 8 stars, 16 walls, 24 windows, 32 ground, 40 water, 48 roofs
+    # 8 patterns share a colour byte: 0 sky, 8 stars, 16 dark windows, 24 lit windows, 32 ground, 40 water, 48 roofs
     machine.put(0x0000 + 8 * 8, rows("........ ........ ...#.... ........ ........ ........ .....#.. ........"))
     machine.put(0x0000 + 8 * 9, rows("........ .#...... ........ ........ ......#. ........ ..#..... ........"))
-    machine.put(0x0000 + 8 * 16, rows("######## ######## ######## ######## ######## ######## ######## ########"))
+    machine.put(0x0000 + 8 * 16, rows("........ .######. .#..#.#. .#..#.#. .######. .#..#.#. .#..#.#. ........"))
     machine.put(0x0000 + 8 * 24, rows("######## #......# #.##.#.# #.##.#.# #......# #.##.#.# #.##.#.# ########"))
-    machine.put(0x0000 + 8 * 25, rows("######## ######## ######## ##....## ##....## ######## ######## ########"))
     machine.put(0x0000 + 8 * 32, rows("######## ######## ######## ######## ######## ######## ######## ########"))
     machine.put(0x0000 + 8 * 33, rows("........ ..#..#.. .##.##.# ######## ######## ######## ######## ########"))
     machine.put(0x0000 + 8 * 40, rows("######## ######## ###..### ######## ######## #..##### ######## ########"))
     machine.put(0x0000 + 8 * 41, rows("######## ##..#### ######## ######## #####..# ######## ######## ########"))
     machine.put(0x0000 + 8 * 48, rows("........ ...##... ..####.. ..####.. .######. .######. ######## ########"))
-    for group, colour in enumerate((0x11, 0xF1, 0xE1, 0x1B, 0xC1, 0x47, 0x61)):
+    for group, colour in enumerate((0x11, 0xF1, 0x41, 0x1B, 0xC1, 0x47, 0x61)):
         machine.put(colours + group, [colour])
     screen = [[0] * 32 for _ in range(24)]
     for row in range(14):
@@ -148,6 +147,7 @@ def night():
                 screen[row][column] = 8
             elif spot == 9:
                 screen[row][column] = 9
+    # a house by the lines of windows in each column
     heights = [4, 4, 7, 7, 3, 5, 5, 9, 9, 9, 4, 6, 6, 2, 8, 8, 3, 3, 6, 6, 6, 5, 5, 10, 10, 4, 7, 7, 7, 3, 5, 5]
     for column, height in enumerate(heights):
         top = 18 - height
@@ -342,7 +342,7 @@ def bitmap():
 
 
 def blocks():
-    """Multicolor: a 64 by 48 picture of a parrot, and small magnified sprites for its seeds."""
+    """Multicolor: a 64 by 48 picture of a parrot, with small magnified sprites: butterflies, and seeds below."""
     machine = Machine([0x00, 0x49, 0x02, 0x00, 0x00, 0x20, 0x03, 0x05])
     names = 0x0800
     for row in range(24):
@@ -391,9 +391,8 @@ def blocks():
     machine.sprite(70, 216, 1, 13)
     machine.sprite(96, 12, 1, 15 + 0x80)   # early clock: half past the left edge
     machine.sprite(248, 150, 1, 9)         # over the top edge
-    machine.sprite(165, 190, 0, 10)
-    machine.sprite(168, 206, 0, 11)
-    machine.sprite(164, 222, 0, 10)
+    for y, x, colour in ((165, 174, 11), (168, 190, 10), (164, 200, 11), (166, 216, 10), (168, 232, 11)):
+        machine.sprite(y, x, 0, colour)    # two seeds meet, and the fifth on a line is not drawn there
     machine.save("multicolor")
 
 
