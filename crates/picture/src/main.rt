@@ -1,0 +1,122 @@
+// Writes the snapshot on standard input as a binary PPM picture, 256 by 192, drawn line by line.
+ghost use mathlib.Core.Path.{_≡_};
+ghost use lib.ListN.{length};
+ghost use Rattle.picture.specs.Palette.{pixelOf};
+use chip::Chip;
+
+// Red, green and blue of the 16 colours (docs/picture-palette.md).
+const RED: [u8; 16] = [
+    0,
+    0,
+    33,
+    94,
+    84,
+    125,
+    212,
+    66,
+    252,
+    255,
+    212,
+    230,
+    33,
+    201,
+    204,
+    255,
+];
+
+const GREEN: [u8; 16] = [
+    0,
+    0,
+    200,
+    219,
+    86,
+    118,
+    81,
+    236,
+    85,
+    121,
+    192,
+    205,
+    175,
+    92,
+    204,
+    255,
+];
+
+const BLUE: [u8; 16] = [
+    0,
+    0,
+    66,
+    120,
+    237,
+    252,
+    77,
+    245,
+    84,
+    120,
+    84,
+    128,
+    59,
+    186,
+    204,
+    255,
+];
+
+pub type Pixel = [u8; 3];
+
+fn pixel_of(colour: u8) -> Pixel
+    ensures { λ r. ⌜ r ≡ pixelOf colour ⌝ }
+{
+    let c = (colour % 16) as usize;
+    [RED[c], GREEN[c], BLUE[c]]
+}
+
+// The pixels of a line.
+fn paint(line: &[u8], out: &mut [u8])
+    requires { ⌜ (length (now line) ≡ 256) × (length (now out) ≡ 768) ⌝ }
+{
+    let mut x = 0;
+    while x < 256 {
+        let pixel = pixel_of(line[x]);
+        out[3 * x] = pixel[0];
+        out[3 * x + 1] = pixel[1];
+        out[3 * x + 2] = pixel[2];
+        x += 1;
+    }
+}
+
+fn draw(chip: Chip, vram: &[u8]) {
+    io::write_all(1, b"P6\n256 192\n255\n");
+    let mut line = [0u8; 256];
+    let mut out = [0u8; 768];
+    let mut l = 0;
+    while l < 192 {
+        scanline::draw_line(chip, vram, &mut line, l);
+        paint(&line, &mut out);
+        io::write_all(1, &out);
+        l += 1;
+    }
+}
+
+fn refuse(number: u8) {
+    let mut out = [0u8; 12];
+    let written = text::refusal_line(number, &mut out);
+    if written <= out.len() {
+        io::write_all(1, &out[..written]);
+    }
+}
+
+fn main() {
+    // One byte more than a snapshot has room, so that a longer file is seen.
+    let mut file = [0u8; 16407];
+    let n = io::read_full(0, &mut file);
+    let mut vram = [0u8; 16384];
+    let answer = snapshot::read(Chip::power_up_state(), &mut vram, &file[..n]);
+    let refusal = answer.refusal;
+    let number = refusal.number();
+    if number != 0 {
+        refuse(number as u8);
+        return;
+    }
+    draw(answer.chip, &vram);
+}

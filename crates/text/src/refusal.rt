@@ -1,0 +1,31 @@
+// The line that tells a refusal.
+ghost use mathlib.Core.Path.{_≡_};
+ghost use Prim.Native.Nat.{_≤_};
+ghost use lib.ListN.{length};
+ghost use Rattle.snapshot.specs.Lists.{putAt};
+ghost use Rattle.text.specs.Lines.{refusedText};
+ghost use Rattle.text.specs.Calls.{refusedWritten};
+use crate::put::put;
+use crate::put::put_decimal;
+
+fn put_refused(out: &mut [u8], number: u8) -> usize
+    requires { ⌜ 12 ≤ length (now out) ⌝ }
+    ensures { λ r. ⌜ r ≡ length (refusedText number) ⌝ }
+    ensures { λ _. ⌜ now (out .exit) ≡ putAt 0 (refusedText number) (now (out .entry)) ⌝ }
+{
+    let word = *b"refused ";
+    let a = put(out, 0, &word);
+    let b = put_decimal(out, a, number as usize);
+    let newline = [b'\n'];
+    put(out, b, &newline)
+}
+
+pub fn refusal_line(number: u8, out: &mut [u8]) -> usize
+    ensures { λ r. ⌜ r ≡ length (refusedWritten number (now (out .entry))) ⌝ }
+    ensures { λ _. ⌜ now (out .exit) ≡ putAt 0 (refusedWritten number (now (out .entry))) (now (out .entry)) ⌝ }
+{
+    if out.len() < 12 {
+        return 0;
+    }
+    put_refused(out, number)
+}
