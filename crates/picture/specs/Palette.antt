@@ -1,4 +1,4 @@
--- The palette: red, green and blue of the 16 colours, computed from Table 2-3 of the data manual (docs/picture-palette.md).
+-- The palette: red, green and blue of the 16 colours, computed from Table 2-3 of the data manual (docs/DECISIONS.md).
 use Prim.Native.Nat.{ℕ, _%_}
 use mathlib.Core.List.{List, [], _∷_}
 use lib.ListN.{getD}

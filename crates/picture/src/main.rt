@@ -4,7 +4,7 @@ ghost use lib.ListN.{length};
 ghost use Rattle.picture.specs.Palette.{pixelOf};
 use chip::Chip;
 
-// Red, green and blue of the 16 colours (docs/picture-palette.md).
+// Red, green and blue of the 16 colours (docs/DECISIONS.md).
 const RED: [u8; 16] = [
     0,
     0,
