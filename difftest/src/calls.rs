@@ -114,8 +114,8 @@ pub struct Step {
     pub call: Call,
     /// Slices lent at another length.
     pub lengths: Vec<(Slice, usize)>,
-    /// A byte of the block set before the call, and set back when it is refused.
-    pub spoil: Option<(usize, u8)>,
+    /// Bytes of the block set before the call, and set back when it is refused.
+    pub spoil: Vec<(usize, u8)>,
 }
 
 impl Step {
@@ -131,7 +131,7 @@ impl From<Call> for Step {
         Step {
             call,
             lengths: Vec::new(),
-            spoil: None,
+            spoil: Vec::new(),
         }
     }
 }
@@ -157,7 +157,7 @@ impl std::fmt::Display for Step {
         for (slice, length) in &self.lengths {
             write!(f, ", {slice:?} of {length} bytes")?;
         }
-        if let Some((at, byte)) = self.spoil {
+        for (at, byte) in &self.spoil {
             write!(f, ", block[{at}] = {byte:02X} until refused")?;
         }
         Ok(())
@@ -194,7 +194,9 @@ impl Side {
                 Slice::Notes => inner.copy_from_slice(&case.notes),
                 Slice::Frame | Slice::Line => inner.fill(FOREIGN),
                 // A right one of the start.
-                Slice::Snapshot => drop((REFERENCE.write_snapshot)(&case.block, &case.vram, inner)),
+                Slice::Snapshot => {
+                    (REFERENCE.write_snapshot)(&case.block, &case.vram, inner);
+                }
             }
             bytes
         });
@@ -208,14 +210,16 @@ impl Side {
 
     /// Makes the call and gives its answer; the host's own doing answers 0.
     fn make(&mut self, calls: &Calls, step: &Step) -> u32 {
-        let before = step.spoil.map(|(at, byte)| {
-            let before = self.slice(Slice::Block)[at];
-            self.slice(Slice::Block)[at] = byte;
-            (at, before)
-        });
+        let block = self.slice(Slice::Block);
+        let before = block.to_vec();
+        for &(at, byte) in &step.spoil {
+            block[at] = byte;
+        }
         let answer = self.lend(calls, step);
-        if let (Some((at, before)), true) = (before, answer >= 256) {
-            self.slice(Slice::Block)[at] = before;
+        if answer >= 256 {
+            for &(at, _) in &step.spoil {
+                self.slice(Slice::Block)[at] = before[at];
+            }
         }
         answer
     }
@@ -346,7 +350,7 @@ struct Before {
 impl Before {
     fn of(side: &mut Side, step: &Step) -> Before {
         let mut block = side.slice(Slice::Block).to_vec();
-        if let Some((at, byte)) = step.spoil {
+        for &(at, byte) in &step.spoil {
             block[at] = byte;
         }
         Before {

@@ -12,8 +12,7 @@ pub fn state_case(seed: u64, number: u64) -> Case {
     let (mut block, vram) = scene(&mut random, mode, kind);
     block[14] = u8::from(random.one_in(4));
     let map = some_map(&mut random);
-    let mut notes = vec![0; 192];
-    random.fill(&mut notes);
+    let notes = some_notes(&mut random);
     let before = block[13];
     let mut steps: Vec<Step> = Vec::new();
     let anew = random.one_in(2);
@@ -54,6 +53,18 @@ fn some_map(random: &mut Random) -> Vec<u8> {
     map
 }
 
+/// Foreign notes: any, or mostly ones that say nothing.
+fn some_notes(random: &mut Random) -> Vec<u8> {
+    let mut notes = vec![random.pick(&[32, 63, 0xA0, 0xBF]); 192];
+    if random.one_in(4) {
+        random.fill(&mut notes);
+    }
+    for _ in 0..random.below(4) {
+        notes[random.below(192)] = random.byte();
+    }
+    notes
+}
+
 /// Mode and kind of a state: all pairs in turn.
 pub fn place(number: u64) -> (usize, usize) {
     let (modes, kinds) = (MODES.len() as u64, KINDS.len() as u64);
@@ -67,10 +78,10 @@ pub fn list_case(seed: u64, number: u64) -> Case {
     let mode = random.pick(&[0, 0, 0, 1, 1, 1, 2, 2, 3, 4, 5]);
     let kind = random.below(KINDS.len());
     let (mut block, vram) = scene(&mut random, mode, kind);
-    block[14] = u8::from(!random.one_in(8));
+    // Without full draw and refresh nothing clears the mark later.
+    block[14] = u8::from(!random.one_in(if FRAME { 8 } else { 2 }));
     let map = some_map(&mut random);
-    let mut notes = vec![0; 192];
-    random.fill(&mut notes);
+    let notes = some_notes(&mut random);
     let mut maker = Maker {
         registers: block[..8].to_vec(),
         random,
@@ -136,7 +147,7 @@ impl Maker {
             }
         }
         if call.place().is_some() && self.random.one_in(16) {
-            step.spoil = Some(self.wrong_block());
+            step.spoil = self.wrong_block();
         }
         self.steps.push(step);
     }
@@ -148,19 +159,19 @@ impl Maker {
         self.random.pick(&[0, 1, right - 1, right + 1, less, more])
     }
 
-    /// A byte that leaves no state, or only might.
-    fn wrong_block(&mut self) -> (usize, u8) {
+    /// Bytes that leave no state, or only might.
+    fn wrong_block(&mut self) -> Vec<(usize, u8)> {
         let byte = self.random.byte();
-        match self.random.below(6) {
-            0 => (9, 0x40 | byte),
-            1 => (11, byte.max(2)),
-            2 => (11, 0),
-            3 => (14, byte.max(2)),
+        match self.random.below(8) {
+            0 => vec![(9, 0x40 | byte)],
+            1 => vec![(8, 0), (9, 0x40)],
+            2 => vec![(11, byte.max(2))],
+            3 => vec![(11, 0)],
+            4 => vec![(14, byte.max(2))],
             _ => {
-                let (register, bit) =
-                    self.random
-                        .pick(&[(0, 4), (0, 0x80), (1, 4), (2, 0x10), (4, 8), (5, 0x80), (6, 8)]);
-                (register, byte | bit)
+                let bits = [(0, 4), (0, 0x80), (1, 4), (2, 0x10), (4, 8), (5, 0x80), (6, 8)];
+                let (register, bit) = self.random.pick(&bits);
+                vec![(register, byte | bit)]
             }
         }
     }
@@ -220,7 +231,7 @@ impl Maker {
         match number {
             0 if !self.random.one_in(4) => byte &= !2,
             1 if !self.random.one_in(6) => byte = byte & !0x18 | 0x40,
-            _ if self.random.one_in(3) => byte = self.registers[number],
+            _ if self.random.one_in(3) => byte = self.registers[number] | byte & !MASKS[number],
             _ => {}
         }
         let second = 0x80 | self.random.byte() & 0x78 | number as u8;
@@ -260,7 +271,11 @@ impl Maker {
         if self.random.one_in(2) {
             return self.push(Call::WriteSnapshot);
         }
-        if self.random.one_in(3) {
+        if self.random.one_in(8) {
+            // An address of 16,384.
+            self.push(Call::PutSnapshot(16392, 0, true));
+            self.push(Call::PutSnapshot(16393, 0x40, true));
+        } else if self.random.one_in(3) {
             let (byte, any) = (self.random.byte(), self.random.below(16406));
             let at = self
                 .random

@@ -1,8 +1,8 @@
-//! difftest [--seed N] [--cases N] [--faults | --gate]
+//! difftest [--seed N] [--first N] [--cases N] [--faults | --gate]
 //!
-//! Compares N states, and a tenth as many lists of calls; without --cases a fixed number that ends
-//! within about two minutes. --faults plants each of the reference's faults in turn and wants it
-//! found; --gate does both.
+//! Compares N states, from the first on, and a tenth as many lists of calls; without --cases a fixed
+//! number that ends within about two minutes. --faults plants each of the reference's faults in turn
+//! and wants it found; --gate does both.
 
 use difftest::calls::{run, Case, Reached, FRAME, NAMES};
 use difftest::lists::{list_case, place, state_case};
@@ -20,6 +20,7 @@ const PRINTED: u64 = 3;
 
 struct Options {
     seed: u64,
+    first: u64,
     cases: u64,
     limit: Option<Duration>,
     compare: bool,
@@ -30,7 +31,7 @@ fn main() {
     let options = match options() {
         Ok(options) => options,
         Err(what) => {
-            eprintln!("difftest: {what}\nusage: difftest [--seed N] [--cases N] [--faults | --gate]");
+            eprintln!("difftest: {what}\nusage: difftest [--seed N] [--first N] [--cases N] [--faults | --gate]");
             std::process::exit(2);
         }
     };
@@ -48,6 +49,7 @@ fn main() {
 fn options() -> Result<Options, String> {
     let mut options = Options {
         seed: SEED,
+        first: 0,
         cases: CASES,
         limit: Some(LIMIT),
         compare: true,
@@ -61,6 +63,7 @@ fn options() -> Result<Options, String> {
         };
         match word.as_str() {
             "--seed" => options.seed = number()?,
+            "--first" => options.first = number()?,
             "--cases" => (options.cases, options.limit) = (number()?, None),
             "--faults" => (options.compare, options.faults) = (false, true),
             "--gate" => (options.compare, options.faults) = (true, true),
@@ -71,13 +74,13 @@ fn options() -> Result<Options, String> {
 }
 
 /// The cases in order, a list after every ten states.
-fn cases(options: &Options) -> impl Iterator<Item = (String, Case)> {
+fn cases(options: &Options) -> impl Iterator<Item = (u64, String, Case)> {
     let seed = options.seed;
-    (0..options.cases).flat_map(move |number| {
+    (options.first..options.first + options.cases).flat_map(move |number| {
         let (mode, kind) = place(number);
-        let state = (format!("state {number} ({}, {})", MODES[mode], KINDS[kind]), state_case(seed, number));
+        let state = (number, format!("state {number} ({}, {})", MODES[mode], KINDS[kind]), state_case(seed, number));
         let list = if number % 10 == 9 {
-            Some((format!("list {}", number / 10), list_case(seed, number / 10)))
+            Some((number, format!("list {}", number / 10), list_case(seed, number / 10)))
         } else {
             None
         };
@@ -88,18 +91,21 @@ fn cases(options: &Options) -> impl Iterator<Item = (String, Case)> {
 fn compare(options: &Options, passed: &mut u64, failed: &mut u64) {
     let mut reached = Reached::default();
     let start = Instant::now();
-    for (name, case) in cases(options) {
+    for (number, name, case) in cases(options) {
         if options.limit.map_or(false, |limit| start.elapsed() > limit) {
             println!("stopped at {name}: {} seconds are over", LIMIT.as_secs());
             break;
         }
-        if run(&case, &mut reached).is_ok() {
-            *passed += 1;
-        } else {
-            *failed += 1;
-            if *failed <= PRINTED {
-                println!("FAILED: {name}, seed {}", options.seed);
-                print(&shrink::shrink(&case));
+        match run(&case, &mut reached) {
+            Ok(()) => *passed += 1,
+            Err(difference) => {
+                *failed += 1;
+                if *failed <= PRINTED {
+                    let (seed, call) = (options.seed, difference.step + 1);
+                    println!("FAILED: {name}: after call {call}, {}", difference.what);
+                    println!("  alone: --seed {seed} --first {number} --cases 1; made small:");
+                    print(&shrink::shrink(&case));
+                }
             }
         }
     }
@@ -134,8 +140,9 @@ fn print(case: &Case) {
     for (number, step) in case.steps.iter().enumerate() {
         println!("  {}. {step}", number + 1);
     }
-    if let Err(difference) = run(case, &mut Reached::default()) {
-        println!("  after {}: {}", difference.step + 1, difference.what);
+    match run(case, &mut Reached::default()) {
+        Err(difference) => println!("  after {}: {}", difference.step + 1, difference.what),
+        Ok(()) => println!("  and this time nothing differs"),
     }
 }
 
@@ -148,7 +155,8 @@ fn hex(bytes: &[u8]) -> String {
 }
 
 fn summary(options: &Options, reached: &Reached) {
-    println!("seed {}, {} states, {} lists", options.seed, options.cases, options.cases / 10);
+    let (first, end) = (options.first, options.first + options.cases);
+    println!("seed {}, {} states, {} lists", options.seed, options.cases, end / 10 - first / 10);
     println!("{:16}{:>10}   refused 1 to 7", "call", "accepted");
     for (name, answers) in NAMES.iter().zip(reached.answers) {
         if answers.iter().any(|&count| count > 0) {
@@ -225,9 +233,9 @@ fn plant_all(options: &Options, passed: &mut u64, failed: &mut u64) {
             continue;
         }
         faults::plant(number);
-        let found = cases(options).find(|(_, case)| run(case, &mut Reached::default()).is_err());
+        let found = cases(options).find(|(_, _, case)| run(case, &mut Reached::default()).is_err());
         match found {
-            Some((by, case)) => {
+            Some((_, by, case)) => {
                 *passed += 1;
                 let small = shrink::shrink(&case);
                 println!("fault {number}, {name}: found by {by}");

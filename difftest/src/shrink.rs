@@ -6,6 +6,9 @@ use std::time::{Duration, Instant};
 /// No more than so long for one case.
 const PATIENCE: Duration = Duration::from_secs(20);
 
+/// How often all is tried again: fewer bytes may let calls go, and the other way round.
+const PASSES: usize = 3;
+
 /// The smallest case found that still fails.
 pub fn shrink(case: &Case) -> Case {
     let start = Instant::now();
@@ -14,34 +17,32 @@ pub fn shrink(case: &Case) -> Case {
     if let Err(difference) = run(&best, &mut Reached::default()) {
         best.steps.truncate(difference.step + 1);
     }
-    loop {
-        let before = best.steps.len();
-        let mut size = (before / 2).max(1);
-        loop {
-            let mut at = 0;
-            while at < best.steps.len() && start.elapsed() < PATIENCE {
-                let mut smaller = best.clone();
-                smaller.steps.drain(at..(at + size).min(best.steps.len()));
-                if fails(&smaller) {
-                    best = smaller;
-                } else {
-                    at += size;
-                }
-            }
-            if size == 1 {
-                break;
-            }
-            size /= 2;
+    for _ in 0..PASSES {
+        fewer_steps(&mut best, &fails, start);
+        plain_steps(&mut best, &fails);
+        for which in 0..4 {
+            zeros(&mut best, which, &fails, start);
         }
-        if best.steps.len() == before || start.elapsed() >= PATIENCE {
-            break;
-        }
-    }
-    plain_steps(&mut best, &fails);
-    for which in 0..4 {
-        zeros(&mut best, which, &fails, start);
     }
     best
+}
+
+/// Deletes ever smaller stretches of steps.
+fn fewer_steps(best: &mut Case, fails: &impl Fn(&Case) -> bool, start: Instant) {
+    let mut size = best.steps.len();
+    while size > 0 {
+        let mut at = 0;
+        while at < best.steps.len() && start.elapsed() < PATIENCE {
+            let mut smaller = best.clone();
+            smaller.steps.drain(at..(at + size).min(best.steps.len()));
+            if fails(&smaller) {
+                *best = smaller;
+            } else {
+                at += size;
+            }
+        }
+        size /= 2;
+    }
 }
 
 /// Takes wrong lengths and spoilt blocks away where they do not matter.
