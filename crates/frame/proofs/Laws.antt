@@ -1,0 +1,8 @@
+-- Laws about the definitions of specs/.
+pub mod Status
+pub mod Lines
+pub mod Redraw
+pub mod Due
+pub mod Marks
+pub mod Clean
+pub mod Calls

@@ -1,0 +1,42 @@
+-- The calls: full draw and refresh, accepted or refused.
+use Prim.Native.Nat.{ℕ}
+use mathlib.Core.List.{List, [], _∷_}
+use Rattle.chip.specs.Map.{mapSize}
+use Rattle.chip.specs.Refusals.{vramTest, sliceTest, stateTest, refusalOf, ifAccepted, answered}
+use Rattle.chip.specs.declared.state.Chip.{Chip}
+use Rattle.chip.specs.declared.refusal.Answer.{Answer}
+use Rattle.chip.specs.declared.refusal.Refusal.{Refusal}
+use Rattle.frame.specs.Lines.{frameSize, notesSize}
+use Rattle.frame.specs.Draw.{frameOf, notesOf, clearMap, drawnState}
+use Rattle.frame.specs.Due.{newFrame, newNotes, dueCount}
+
+-- Both make the same tests.
+abbrev pub drawRefusal : Chip → List ℕ → List ℕ → List ℕ → List ℕ → Refusal
+drawRefusal c vram map frame notes =
+    refusalOf (vramTest vram ∷ sliceTest mapSize map ∷ sliceTest frameSize frame ∷ sliceTest notesSize notes ∷ stateTest c ∷ [])
+
+abbrev pub fullDraw : Chip → List ℕ → List ℕ → List ℕ → List ℕ → Answer
+fullDraw c vram map frame notes = answered (drawRefusal c vram map frame notes) c (drawnState c (notesOf (c .registers) vram)) 0
+
+abbrev pub fullDrawFrame : Chip → List ℕ → List ℕ → List ℕ → List ℕ → List ℕ
+fullDrawFrame c vram map frame notes = ifAccepted (drawRefusal c vram map frame notes) (frameOf (c .registers) vram) frame
+
+abbrev pub fullDrawNotes : Chip → List ℕ → List ℕ → List ℕ → List ℕ → List ℕ
+fullDrawNotes c vram map frame notes = ifAccepted (drawRefusal c vram map frame notes) (notesOf (c .registers) vram) notes
+
+-- A refresh clears the map as a full draw does.
+abbrev pub drawMap : Chip → List ℕ → List ℕ → List ℕ → List ℕ → List ℕ
+drawMap c vram map frame notes = ifAccepted (drawRefusal c vram map frame notes) clearMap map
+
+-- Refresh answers how many lines it redrew. Status follows all 192 notes as they then stand.
+abbrev pub refresh : Chip → List ℕ → List ℕ → List ℕ → List ℕ → Answer
+refresh c vram map frame notes =
+    answered (drawRefusal c vram map frame notes) c
+    (drawnState c (newNotes (c .redraw) (c .registers) vram map notes))
+    (dueCount (c .redraw) (c .registers) vram map)
+
+abbrev pub refreshFrame : Chip → List ℕ → List ℕ → List ℕ → List ℕ → List ℕ
+refreshFrame c vram map frame notes = ifAccepted (drawRefusal c vram map frame notes) (newFrame (c .redraw) (c .registers) vram map frame) frame
+
+abbrev pub refreshNotes : Chip → List ℕ → List ℕ → List ℕ → List ℕ → List ℕ
+refreshNotes c vram map frame notes = ifAccepted (drawRefusal c vram map frame notes) (newNotes (c .redraw) (c .registers) vram map notes) notes

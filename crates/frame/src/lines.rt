@@ -1,0 +1,82 @@
+// Redrawing the lines that are due.
+ghost use mathlib.Core.Path.{_≡_};
+ghost use mathlib.Core.Bool.{true, cond};
+ghost use Prim.Native.Nat.{_<_};
+ghost use lib.ListN.{length};
+ghost use Rattle.chip.specs.State.{masked};
+ghost use Rattle.scanline.specs.Calls.{noteAt, colours};
+ghost use Rattle.frame.specs.Due as due;
+use scanline::draw_row;
+use scanline::line_marked;
+
+// A line's note, and whether the line was redrawn.
+pub struct Turn {
+    pub note: u8,
+    pub redrawn: bool,
+}
+
+// Whether line l is due. With the redraw mark set no map is read.
+fn is_due(mark: bool, r: [u8; 8], vram: &[u8], map: &[u8], l: u8) -> bool
+    requires { ⌜ (masked r ≡ true) × (length (now vram) ≡ 16384) × (length (now map) ≡ 2048) × (l < 192) ⌝ }
+    ensures { λ b. ⌜ b ≡ due.due mark r (now (vram .entry)) (now (map .entry)) l ⌝ }
+{
+    if mark {
+        return true;
+    }
+    line_marked(r, vram, map, l)
+}
+
+// Redraws line l into its part of the frame if it is due.
+fn redraw_line(
+    mark: bool,
+    r: [u8; 8],
+    vram: &[u8],
+    map: &[u8],
+    l: u8,
+    line: &mut [u8],
+    note: u8,
+) -> Turn
+    requires { ⌜ (masked r ≡ true) × (length (now vram) ≡ 16384) × (length (now map) ≡ 2048) × (l < 192) × (length (now line) ≡ 256) ⌝ }
+    ensures { λ t. ⌜ t .redrawn ≡ due.due mark r (now (vram .entry)) (now (map .entry)) l ⌝ }
+    ensures { λ t. ⌜ t .note ≡ cond (due.due mark r (now (vram .entry)) (now (map .entry)) l) (noteAt r (now (vram .entry)) l) note ⌝ }
+    ensures { λ _. ⌜ now (line .exit) ≡ cond (due.due mark r (now (vram .entry)) (now (map .entry)) l) (colours r (now (vram .entry)) l) (now (line .entry)) ⌝ }
+{
+    if is_due(mark, r, vram, map, l) {
+        let drawn = draw_row(r, vram, l, line);
+        return Turn {
+            note: drawn,
+            redrawn: true,
+        };
+    }
+    Turn {
+        note: note,
+        redrawn: false,
+    }
+}
+
+// Redraws the due lines, and counts them.
+pub fn redraw_lines(
+    mark: bool,
+    r: [u8; 8],
+    vram: &[u8],
+    map: &[u8],
+    frame: &mut [u8],
+    notes: &mut [u8],
+) -> u8
+    requires { ⌜ (masked r ≡ true) × (length (now vram) ≡ 16384) × (length (now map) ≡ 2048) × (length (now frame) ≡ 49152) × (length (now notes) ≡ 192) ⌝ }
+    ensures { λ n. ⌜ n ≡ due.dueCount mark r (now (vram .entry)) (now (map .entry)) ⌝ }
+    ensures { λ _. ⌜ now (frame .exit) ≡ due.newFrame mark r (now (vram .entry)) (now (map .entry)) (now (frame .entry)) ⌝ }
+    ensures { λ _. ⌜ now (notes .exit) ≡ due.newNotes mark r (now (vram .entry)) (now (map .entry)) (now (notes .entry)) ⌝ }
+{
+    let mut redrawn: u8 = 0;
+    let mut l: u8 = 0;
+    while l < 192 {
+        let i = l as usize;
+        let at = 256 * i;
+        let turn = redraw_line(mark, r, vram, map, l, &mut frame[at..at + 256], notes[i]);
+        notes[i] = turn.note;
+        redrawn += turn.redrawn as u8;
+        l += 1;
+    }
+    redrawn
+}
