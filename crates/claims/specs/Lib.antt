@@ -1,1 +1,4 @@
 pub mod Cases
+pub mod Bench
+pub mod Call
+pub mod Step
