@@ -1,0 +1,5 @@
+-- Laws that the claims rest on.
+pub mod Registers
+pub mod States
+pub mod Turns
+pub mod Good
