@@ -3,3 +3,5 @@ pub mod Registers
 pub mod States
 pub mod Turns
 pub mod Good
+pub mod Lent
+pub mod Direct

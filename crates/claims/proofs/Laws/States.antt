@@ -5,12 +5,14 @@ use mathlib.Core.Path.{_≡_, refl, sym, ap, _∙_}
 use mathlib.Core.Bool.{Bool, true, false, cond, not, _&&_}
 use mathlib.Core.List.{List, [], _∷_}
 use lib.Bits.{bitOr, or-lt}
-use lib.Dec.{ltb, leb, lit<}
+use lib.Dec.{eqb, ltb, leb, lit<}
 use lib.ListN.{length, getD, set, replicate, length-set}
+use lib.Seq.{length-take-le}
 use borrow.Author.Tests.{ltb-true, le-leb}
 use Rattle.chip.specs.Bits.{bit, setBit}
-use Rattle.chip.specs.State.{Bytes, Fits, byteOf, kept, masked, wellFormed, powerUpState, withRegisters, withAddress, withBuffer, withWaiting, withStatus, withRedraw}
+use Rattle.chip.specs.State.{Bytes, Fits, byteOf, waitingOf, kept, masked, wellFormed, powerUpState, withRegisters, withAddress, withBuffer, withWaiting, withStatus, withRedraw}
 use Rattle.chip.specs.Ports.{stepped, prefetched, registerWritten, pairDone, controlBy, control, dataWritten, dataRead, statusRead, displayEnded, wasReset}
+use Rattle.chip.specs.Layout.{decoded, holdsState}
 use Rattle.chip.specs.declared.state.Chip.{Chip}
 use Rattle.chip.specs.declared.state.Waiting.{Waiting}
 use Rattle.chip.specs.declared.state.Waiting.the-variants.{Nothing, First}
@@ -18,6 +20,8 @@ use Rattle.chip.proofs.Laws.Ranges.{and-both}
 use Rattle.chip.proofs.Laws.State.{address-in, masked-in}
 use Rattle.scanline.specs.Notes.{latched, withFifth, withCoincidence, statusAfter}
 use Rattle.frame.specs.Draw.{statusThrough, drawnState}
+use Rattle.snapshot.proofs.Laws.Accepted.{state-of}
+use Rattle.snapshot.proofs.Laws.Bytes.{bytes-part}
 use Rattle.claims.proofs.Laws.Registers.{kept-byte, bytes-set, masked-set}
 
 pub record Ready (c : Chip) : Type 0 where
@@ -84,7 +88,7 @@ module _ {c : Chip} (ready : Ready c) where
 stepped-in : (a : ℕ) → stepped a ≤ 16383
 stepped-in a = omega arith
 
-zeros : (n i : ℕ) → getD (replicate n 0) i 0 < 256
+pub zeros : (n i : ℕ) → getD (replicate n 0) i 0 < 256
 zeros zero i = lit< tt
 zeros (suc n) zero = lit< tt
 zeros (suc n) (suc i) = zeros n i
@@ -171,3 +175,28 @@ module _ {c : Chip} (ready : Ready c) where
 
   pub ready-drawn : (notes : List ℕ) → Ready (drawnState c notes)
   ready-drawn notes = with-redraw (with-status ready (statusThrough (c .status) notes) (through-byte (c .status) notes (ready .fits .status))) false
+
+-- The state that the bytes of a snapshot hold.
+waiting-byte : (flag a : ℕ) → a < 256 → byteOf (waitingOf flag a) < 256
+waiting-byte flag a h = by (eqb flag 1)
+  where
+    by : (b : Bool) → byteOf (cond b (First a) Nothing) < 256
+    by true = h
+    by false = lit< tt
+
+pub ready-decoded : (l : List ℕ) → Bytes l → 8 ≤ length l → holdsState l ≡ true → Ready (decoded l true)
+ready-decoded l bytes long holds =
+    let held : wellFormed (decoded l true) ≡ true = state-of l holds in
+    let within = address-in (decoded l true) held in
+    record {
+      fits =
+          record {
+            eight = length-take-le 8 l long;
+            registers = bytes-part 0 8 l bytes;
+            address = omega arith;
+            buffer = bytes 10;
+            waiting = waiting-byte (getD l 11 0) (getD l 12 0) (bytes 12);
+            status = bytes 13;
+          };
+      well-formed = held;
+    }

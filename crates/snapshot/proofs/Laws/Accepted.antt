@@ -29,7 +29,7 @@ all-four a b c d e =
     (and-left a b ab, and-right a b ab, and-right (a && b) c abc, and-right (a && b && c) d e)
 
 -- bytes that hold a state hold a well-formed one
-state-of : (b : List ℕ) → holdsState b ≡ true → wellFormed (decoded b true) ≡ true
+pub state-of : (b : List ℕ) → holdsState b ≡ true → wellFormed (decoded b true) ≡ true
 state-of b h = and-right (eqb (getD b 11 0) 1 || eqb (getD b 11 0) 0 && eqb (getD b 12 0) 0) (wellFormed (decoded b true)) h
 
 module _ (file : List ℕ) (bytes : Bytes file) {old : List ℕ} (r : Readable old file) where

@@ -1,0 +1,97 @@
+-- Every direct call keeps the invariant, whatever it is lent.
+use native.Mathlib.Omega.{arith}
+use Prim.Native.Nat.{ℕ, _-_, _<_}
+use mathlib.Core.Path.{_≡_, refl, sym, ap, subst, subst⁻¹, _∙_}
+use mathlib.Core.Bool.{Bool, true, false, cond}
+use mathlib.Core.List.{List, [], _∷_}
+use lib.Dec.{eqb}
+use lib.ListN.{length, length-replicate}
+use borrow.Author.Tests.{eqb-true}
+use Rattle.chip.specs.State.{Bytes, vramSize, powerUpState}
+use Rattle.chip.specs.Map.{mapSize, marked}
+use Rattle.chip.specs.Ports.{control, dataWritten, stored, dataRead, statusRead, displayEnded, wasReset, clearedVram}
+use Rattle.chip.specs.Refusals.{Test, isAccepted, refusalOf, ifAccepted, vramTest, sliceTest, stateTest, lineTest}
+use Rattle.chip.specs.Layout.{decoded, holdsState}
+use Rattle.chip.specs.declared.state.Chip.{Chip}
+use Rattle.chip.proofs.Laws.Refusals.{AllPass, AllRefuse, all-pass}
+use Rattle.scanline.specs.Notes.{statusAfter}
+use Rattle.frame.specs.Lines.{frameSize, notesSize}
+use Rattle.claims.specs.Bench.{Bench}
+use Rattle.claims.specs.Call.{Op, powerUp, controlWrite, dataWrite, dataRead as readData, statusRead as readStatus, endOfDisplay, interruptLine, reset, drawLine, fullDraw, refresh, readSnapshot, writeSnapshot, OpBytes, Lent, own, other, Call, Caller}
+use Rattle.claims.specs.Step.{lent, back, lentBench, benchBack, directly}
+use Rattle.snapshot.specs.Tests.{stateBytes, vramBytes, trailerAt}
+use Rattle.snapshot.specs.Calls.{readTests}
+use Rattle.snapshot.proofs.Laws.Bytes.{bytes-part}
+use Rattle.snapshot.proofs.Laws.Parts.{length-state, length-vram}
+use Rattle.claims.proofs.Laws.States.{Ready, zeros, ready-decoded, ready-power-up, ready-control, ready-read, ready-status-read, ready-ended, ready-reset, ready-line}
+use Rattle.claims.proofs.Laws.Turns.{Turned, quiet, marks, control-turned}
+use Rattle.claims.proofs.Laws.Good.{bench, Good, good-marked, good-turned, good-written, drawn, good-drawn, refreshed, refreshed-drawn}
+use Rattle.claims.proofs.Laws.Lent.{lent-own, back-own, back-same, settle, good-same, good-back}
+
+-- the state and the VRAM that an accepted snapshot holds
+state-bytes : (s : List ℕ) → Bytes s → Bytes (stateBytes s)
+unfolding stateBytes
+state-bytes s bytes = bytes-part (trailerAt s - 14) 14 s bytes
+
+vram-bytes : (s : List ℕ) → Bytes s → Bytes (vramBytes s)
+unfolding vramBytes
+vram-bytes s bytes = bytes-part (trailerAt s - 16398) 16384 s bytes
+
+ready-held : (s : List ℕ) → Bytes s → length s ≡ 16406 → holdsState (stateBytes s) ≡ true → Ready (decoded (stateBytes s) true)
+ready-held s bytes whole holds = let long = length-state s whole in ready-decoded (stateBytes s) (state-bytes s bytes) (omega arith) holds
+
+module _ {b : Bench} (good : Good b) (v : Lent vramSize) (m : Lent mapSize) (f : Lent frameSize) (n : Lent notesSize) where
+  abbrev c : Chip
+  c = b .chip
+
+  abbrev vram : List ℕ
+  vram = lent v (b .vram)
+
+  -- the bench after a call that left these lists
+  abbrev after : Chip → List ℕ → List ℕ → List ℕ → List ℕ → Bench
+  after d vram map frame notes = bench d (back v vram (b .vram)) (back m map (b .map)) (back f frame (b .frame)) (back n notes (b .notes))
+
+  -- and of one that left them as lent
+  abbrev kept : Chip → Bench
+  kept d = after d vram (lent m (b .map)) (lent f (b .frame)) (lent n (b .notes))
+
+  -- A call that touches no list.
+  state-only : (ts : List Test) → AllRefuse ts → (d : Chip) → (AllPass ts → Ready d × Turned c d) → Good (kept (ifAccepted (refusalOf ts) d c))
+  state-only ts refuse d turns =
+      settle (λ a. Good (kept (cond a d c))) (isAccepted (refusalOf ts))
+      (good-back v m f n good)
+      (λ ok. let t = turns (all-pass ts refuse ok) in good-back v m f n (good-turned good d (t .0) (t .1)))
+
+  -- the VRAM of a call that passed its test holds bytes
+  bytes : eqb (length vram) vramSize ≡ true → Bytes vram
+  bytes e = subst⁻¹ Bytes (lent-own v (b .vram) e) (good .bytes)
+
+  -- A call that replaces state and VRAM, and sets the mark.
+  replaced : (ts : List Test) → AllRefuse ts → (d : Chip) (new : List ℕ) → (AllPass ts → eqb (length vram) vramSize ≡ true) → d .redraw ≡ true → (AllPass ts → Ready d) → (AllPass ts → length new ≡ vramSize) → (AllPass ts → Bytes new) → Good (after (ifAccepted (refusalOf ts) d c) (ifAccepted (refusalOf ts) new vram) (lent m (b .map)) (lent f (b .frame)) (lent n (b .notes)))
+  replaced ts refuse d new room mark ready long bytes =
+      settle (λ a. Good (after (cond a d c) (cond a new vram) (lent m (b .map)) (lent f (b .frame)) (lent n (b .notes)))) (isAccepted (refusalOf ts))
+      (good-back v m f n good)
+      (λ ok. let p = all-pass ts refuse ok in
+        good-same d (back-own v (b .vram) new (room p)) (back-same m (b .map)) (back-same f (b .frame)) (back-same n (b .notes))
+        (good-marked d new (b .map) (b .frame) (b .notes) mark (record { vram = long p; map = good .lengths .map; frame = good .lengths .frame; notes = good .lengths .notes }) (ready p) (bytes p)))
+
+  pub written-keeps : (x : ℕ) → x < 256 → let map = lent m (b .map) in let ts = vramTest vram ∷ sliceTest mapSize map ∷ stateTest c ∷ [] in
+      Good (after (ifAccepted (refusalOf ts) (dataWritten x c) c) (ifAccepted (refusalOf ts) (stored x c vram) vram) (ifAccepted (refusalOf ts) (marked map (c .address)) map) (lent f (b .frame)) (lent n (b .notes)))
+  written-keeps x h =
+      let map = lent m (b .map) in
+      let ts = vramTest vram ∷ sliceTest mapSize map ∷ stateTest c ∷ [] in
+      settle (λ a. Good (after (cond a (dataWritten x c) c) (cond a (stored x c vram) vram) (cond a (marked map (c .address)) map) (lent f (b .frame)) (lent n (b .notes)))) (isAccepted (refusalOf ts))
+      (good-back v m f n good)
+      (λ ok. let p = all-pass ts (refl, (refl, (refl, tt))) ok in
+        good-same (dataWritten x c)
+        (back-own v (b .vram) (stored x c vram) (p .0) ∙ ap (stored x c) (lent-own v (b .vram) (p .0)))
+        (back-own m (b .map) (marked map (c .address)) (p .1 .0) ∙ ap (λ (l : List ℕ). marked l (c .address)) (lent-own m (b .map) (p .1 .0)))
+        (back-same f (b .frame)) (back-same n (b .notes))
+        (good-written good x h))
+
+  read-keeps : (s : List ℕ) → Bytes s → let ts = readTests vram s in Good (after (ifAccepted (refusalOf ts) (decoded (stateBytes s) true) c) (ifAccepted (refusalOf ts) (vramBytes s) vram) (lent m (b .map)) (lent f (b .frame)) (lent n (b .notes)))
+  read-keeps s bytes =
+      replaced (readTests vram s) (refl, (refl, (refl, (refl, (refl, tt))))) (decoded (stateBytes s) true) (vramBytes s) (λ p. p .0) refl
+      (λ p. ready-held s bytes (eqb-true _ _ (p .1 .0)) (p .1 .1 .1 .1 .0))
+      (λ p. length-vram s (eqb-true _ _ (p .1 .0)))
+      (λ p. vram-bytes s bytes)
