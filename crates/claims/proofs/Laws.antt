@@ -4,4 +4,6 @@ pub mod States
 pub mod Turns
 pub mod Good
 pub mod Lent
+pub mod Refused
+pub mod Draws
 pub mod Direct

@@ -7,7 +7,7 @@ use mathlib.Core.List.{List, [], _∷_}
 use lib.Dec.{eqb}
 use lib.ListN.{length, length-replicate}
 use borrow.Author.Tests.{eqb-true}
-use Rattle.chip.specs.State.{Bytes, vramSize, powerUpState}
+use Rattle.chip.specs.State.{Bytes, vramSize, powerUpState, withStatus}
 use Rattle.chip.specs.Map.{mapSize, marked}
 use Rattle.chip.specs.Ports.{control, dataWritten, stored, dataRead, statusRead, displayEnded, wasReset, clearedVram}
 use Rattle.chip.specs.Refusals.{Test, isAccepted, refusalOf, ifAccepted, vramTest, sliceTest, stateTest, lineTest}
@@ -19,13 +19,16 @@ use Rattle.frame.specs.Lines.{frameSize, notesSize}
 use Rattle.claims.specs.Bench.{Bench}
 use Rattle.claims.specs.Call.{Op, powerUp, controlWrite, dataWrite, dataRead as readData, statusRead as readStatus, endOfDisplay, interruptLine, reset, drawLine, fullDraw, refresh, readSnapshot, writeSnapshot, OpBytes, Lent, own, other, Call, Caller}
 use Rattle.claims.specs.Step.{lent, back, lentBench, benchBack, directly}
-use Rattle.snapshot.specs.Tests.{stateBytes, vramBytes, trailerAt}
+use Rattle.scanline.specs.Calls.{lineSize, noteAt}
+use Rattle.snapshot.specs.Tests.{sizeTest, stateBytes, vramBytes, trailerAt}
 use Rattle.snapshot.specs.Calls.{readTests}
 use Rattle.snapshot.proofs.Laws.Bytes.{bytes-part}
 use Rattle.snapshot.proofs.Laws.Parts.{length-state, length-vram}
 use Rattle.claims.proofs.Laws.States.{Ready, zeros, ready-decoded, ready-power-up, ready-control, ready-read, ready-status-read, ready-ended, ready-reset, ready-line}
 use Rattle.claims.proofs.Laws.Turns.{Turned, quiet, marks, control-turned}
 use Rattle.claims.proofs.Laws.Good.{bench, Good, good-marked, good-turned, good-written, drawn, good-drawn, refreshed, refreshed-drawn}
+use Rattle.claims.proofs.Laws.Draws.{drawTests, full-drawn, refresh-drawn}
+use Rattle.claims.proofs.Laws.Refused.{direct-refused}
 use Rattle.claims.proofs.Laws.Lent.{lent-own, back-own, back-same, settle, good-same, good-back}
 
 -- the state and the VRAM that an accepted snapshot holds
@@ -40,7 +43,19 @@ vram-bytes s bytes = bytes-part (trailerAt s - 16398) 16384 s bytes
 ready-held : (s : List ℕ) → Bytes s → length s ≡ 16406 → holdsState (stateBytes s) ≡ true → Ready (decoded (stateBytes s) true)
 ready-held s bytes whole holds = let long = length-state s whole in ready-decoded (stateBytes s) (state-bytes s bytes) (omega arith) holds
 
-module _ {b : Bench} (good : Good b) (v : Lent vramSize) (m : Lent mapSize) (f : Lent frameSize) (n : Lent notesSize) where
+module _ {b : Bench} (good : Good b) (call : Call) where
+  abbrev v : Lent vramSize
+  v = call .vram
+
+  abbrev m : Lent mapSize
+  m = call .map
+
+  abbrev f : Lent frameSize
+  f = call .frame
+
+  abbrev n : Lent notesSize
+  n = call .notes
+
   abbrev c : Chip
   c = b .chip
 
@@ -75,7 +90,7 @@ module _ {b : Bench} (good : Good b) (v : Lent vramSize) (m : Lent mapSize) (f :
         good-same d (back-own v (b .vram) new (room p)) (back-same m (b .map)) (back-same f (b .frame)) (back-same n (b .notes))
         (good-marked d new (b .map) (b .frame) (b .notes) mark (record { vram = long p; map = good .lengths .map; frame = good .lengths .frame; notes = good .lengths .notes }) (ready p) (bytes p)))
 
-  pub written-keeps : (x : ℕ) → x < 256 → let map = lent m (b .map) in let ts = vramTest vram ∷ sliceTest mapSize map ∷ stateTest c ∷ [] in
+  written-keeps : (x : ℕ) → x < 256 → let map = lent m (b .map) in let ts = vramTest vram ∷ sliceTest mapSize map ∷ stateTest c ∷ [] in
       Good (after (ifAccepted (refusalOf ts) (dataWritten x c) c) (ifAccepted (refusalOf ts) (stored x c vram) vram) (ifAccepted (refusalOf ts) (marked map (c .address)) map) (lent f (b .frame)) (lent n (b .notes)))
   written-keeps x h =
       let map = lent m (b .map) in
@@ -95,3 +110,34 @@ module _ {b : Bench} (good : Good b) (v : Lent vramSize) (m : Lent mapSize) (f :
       (λ p. ready-held s bytes (eqb-true _ _ (p .1 .0)) (p .1 .1 .1 .1 .0))
       (λ p. length-vram s (eqb-true _ _ (p .1 .0)))
       (λ p. vram-bytes s bytes)
+
+  -- The bench after the call, made directly.
+  abbrev afterwards : Op → Bench
+  afterwards op = let left = directly op (lentBench call b) in benchBack call b (left .answer .chip) left
+
+  drew : (op : Op) → (isAccepted (refusalOf (drawTests b call)) ≡ true → afterwards op ≡ drawn c (b .vram)) → (isAccepted (refusalOf (drawTests b call)) ≡ false → afterwards op ≡ b) → Good (afterwards op)
+  drew op accepted refused = by (isAccepted (refusalOf (drawTests b call))) refl
+    where
+      by : (a : Bool) → isAccepted (refusalOf (drawTests b call)) ≡ a → Good (afterwards op)
+      by true e = subst⁻¹ Good (accepted e) (good-drawn c (b .vram) (good .ready) (good .lengths .vram) (good .bytes))
+      by false e = subst⁻¹ Good (refused e) good
+
+  pub direct-keeps : (op : Op) → OpBytes op → Good (afterwards op)
+  direct-keeps powerUp h =
+      replaced (vramTest vram ∷ []) (refl, tt) powerUpState clearedVram (λ p. p .0) refl (λ p. ready-power-up) (λ p. length-replicate {A = ℕ} vramSize 0) (λ p. zeros vramSize)
+  direct-keeps (controlWrite x) h =
+      state-only (vramTest vram ∷ stateTest c ∷ []) (refl, (refl, tt)) (control x vram c) (λ p. (ready-control (good .ready) vram (bytes (p .0)) x h, control-turned x vram c))
+  direct-keeps (dataWrite x) h = written-keeps x h
+  direct-keeps readData h = state-only (vramTest vram ∷ stateTest c ∷ []) (refl, (refl, tt)) (dataRead vram c) (λ p. (ready-read (good .ready) vram (bytes (p .0)), quiet refl refl))
+  direct-keeps readStatus h = state-only (stateTest c ∷ []) (refl, tt) (statusRead c) (λ p. (ready-status-read (good .ready), quiet refl refl))
+  direct-keeps endOfDisplay h = state-only (stateTest c ∷ []) (refl, tt) (displayEnded c) (λ p. (ready-ended (good .ready), quiet refl refl))
+  direct-keeps interruptLine h = state-only (stateTest c ∷ []) (refl, tt) c (λ p. (good .ready, quiet refl refl))
+  direct-keeps reset h = state-only (stateTest c ∷ []) (refl, tt) (wasReset c) (λ p. (ready-reset (good .ready), marks refl))
+  direct-keeps (drawLine line l) h =
+      state-only (vramTest vram ∷ sliceTest lineSize line ∷ stateTest c ∷ lineTest l ∷ []) (refl, (refl, (refl, (refl, tt))))
+      (withStatus (statusAfter (c .status) (noteAt (c .registers) vram l)) c)
+      (λ p. (ready-line (good .ready) (noteAt (c .registers) vram l), quiet refl refl))
+  direct-keeps fullDraw h = drew fullDraw (full-drawn b call) (direct-refused b call fullDraw)
+  direct-keeps refresh h = drew refresh (λ ok. refresh-drawn b call ok good) (direct-refused b call refresh)
+  direct-keeps (readSnapshot s) h = read-keeps s h
+  direct-keeps (writeSnapshot s) h = state-only (vramTest vram ∷ sizeTest s ∷ stateTest c ∷ []) (refl, (refl, (refl, tt))) c (λ p. (good .ready, quiet refl refl))
