@@ -1,0 +1,186 @@
+-- From C, a call is the direct call.
+use Prim.Native.Nat.{ℕ, _+_, _*_, _/_, _%_, _≤_, _<_}
+use native.Mathlib.Omega.{arith}
+use mathlib.Core.Path.{_≡_, refl, sym, ap, _∙_}
+use mathlib.Core.Bool.{Bool, true, false, cond}
+use mathlib.Core.List.{List, [], _∷_}
+use lib.Dec.{leb, ltb, lit<}
+use lib.ListN.{length, set, take, length-set}
+use lib.Seq.{length-take-le}
+use mir.Val.{boolByte}
+use borrow.Author.Tests.{eqb-true}
+use Rattle.chip.specs.State.{kept, powerUpState, withStatus, withAddress, withWaiting}
+use Rattle.chip.specs.Map.{mapSize, marked}
+use Rattle.chip.specs.Ports.{prefetched, registerWritten, controlBy, control, dataWritten, stored, dataRead, statusRead, displayEnded, interruptOn, wasReset, clearedVram}
+use Rattle.chip.specs.Layout.{blockSize, blockOf, blockTest, blockTests, decoded}
+use Rattle.chip.specs.Refusals.{Test, isAccepted, refusalOf, vramTest, sliceTest, stateTest, lineTest}
+use Rattle.chip.specs.Calls as chip
+use Rattle.chip.specs.declared.state.Chip.{Chip}
+use Rattle.chip.specs.declared.state.Waiting.{Waiting}
+use Rattle.chip.specs.declared.state.Waiting.the-variants.{Nothing, First}
+use Rattle.chip.specs.declared.refusal.Answer.{Answer}
+use Rattle.chip.proofs.Laws.Refusals.{all-pass}
+use Rattle.scanline.specs.Notes.{statusAfter}
+use Rattle.scanline.specs.Calls as scanline
+use Rattle.frame.specs.Lines.{frameSize, notesSize, lineCount}
+use Rattle.frame.specs.Draw.{frameOf, notesOf, clearMap, drawnState}
+use Rattle.frame.specs.Due.{due, newFrame, newNotes, dueCount}
+use Rattle.frame.specs.Calls as frame
+use Rattle.frame.proofs.Laws.Lines.{bit-small, count-le}
+use Rattle.snapshot.specs.Format.{snapshotOf}
+use Rattle.snapshot.specs.Tests.{sizeTest, stateBytes, vramBytes}
+use Rattle.snapshot.specs.Calls as snapshot
+use Rattle.snapshot.proofs.Laws.Parts.{length-state}
+use Rattle.birdcleft.specs.Calls.{FromC}
+use Rattle.claims.specs.Bench.{Bench}
+use Rattle.claims.specs.Call.{Op, powerUp, controlWrite, dataWrite, dataRead as readData, statusRead as readStatus, endOfDisplay, interruptLine, reset, drawLine, fullDraw, refresh, readSnapshot, writeSnapshot, own, Call}
+use Rattle.claims.specs.Step.{Left, back, lentBench, directly, throughC, stepDirect, stepFromC}
+use Rattle.claims.proofs.Laws.States.{Ready}
+use Rattle.claims.proofs.Laws.Blocks.{Same, block-as-state, block-dropped, through-same, list-same}
+
+-- A control write leaves eight registers.
+record Eight (c : Chip) : Type 0 where
+  is : length (c .registers) ≡ 8
+
+either-eight : (b : Bool) {c d : Chip} → Eight c → Eight d → Eight (cond b c d)
+either-eight true p q = p
+either-eight false p q = q
+
+eight-control : (x : ℕ) (vram : List ℕ) (c : Chip) → length (c .registers) ≡ 8 → Eight (control x vram c)
+eight-control x vram c e = by (c .waiting)
+  where
+    by : (w : Waiting) → Eight (controlBy w x vram c)
+    by Nothing = record { is = e }
+    by (First a) = either-eight (leb 128 x) (record { is = length-set (c .registers) (x % 8) (kept (x % 8) a) ∙ e }) (either-eight (ltb x 64) (record { is = e }) (record { is = e }))
+
+-- What both leave is the same: the state, the parts of the number, the lists and the call's own slice.
+module _ (call : Call) (b : Bench) where
+  same-step : {l : Left FromC} {k : Left Answer} → Same (l .answer) (k .answer) → l .vram ≡ k .vram → l .map ≡ k .map → l .frame ≡ k .frame → l .notes ≡ k .notes → l .slice ≡ k .slice → stepFromC own call b l ≡ stepDirect call b k
+  same-step same ev em ef en es = λ i.
+      record {
+        bench =
+            record {
+              chip = same .state i;
+              vram = back (call .vram) (ev i) (b .vram);
+              map = back (call .map) (em i) (b .map);
+              frame = back (call .frame) (ef i) (b .frame);
+              notes = back (call .notes) (en i) (b .notes);
+            };
+        reply = record { refusal = same .refusal i; value = same .value i; slice = es i };
+      }
+
+  module _ (ready : Ready (b .chip)) where
+    abbrev lends : Bench
+    lends = lentBench call b
+
+    abbrev c : Chip
+    c = b .chip
+
+    abbrev r : List ℕ
+    r = c .registers
+
+    abbrev vram : List ℕ
+    vram = lends .vram
+
+    abbrev map : List ℕ
+    map = lends .map
+
+    abbrev frame-lent : List ℕ
+    frame-lent = lends .frame
+
+    abbrev notes : List ℕ
+    notes = lends .notes
+
+    eight : length r ≡ 8
+    eight = ready .fits .eight
+
+    abbrev Claim : Op → Type 0
+    Claim op = stepFromC own call b (throughC op (blockOf c) lends) ≡ stepDirect call b (directly op lends)
+
+    -- calls that test the state, or VRAM and state, and touch no list
+    state-refusal : refusalOf (blockTests (blockOf c)) ≡ refusalOf (stateTest c ∷ [])
+    state-refusal = block-as-state ready [] []
+
+    vram-refusal : refusalOf (vramTest vram ∷ blockTests (blockOf c)) ≡ refusalOf (vramTest vram ∷ stateTest c ∷ [])
+    vram-refusal = block-as-state ready (vramTest vram ∷ []) []
+
+    power-up-refusal : refusalOf (vramTest vram ∷ sliceTest blockSize (blockOf c) ∷ []) ≡ chip.powerUpRefusal vram
+    power-up-refusal = block-dropped ready (vramTest vram ∷ []) []
+
+    write-refusal : refusalOf (vramTest vram ∷ sliceTest mapSize map ∷ blockTests (blockOf c)) ≡ chip.dataWriteRefusal c vram map
+    write-refusal = block-as-state ready (vramTest vram ∷ sliceTest mapSize map ∷ []) []
+
+    draw-refusal : refusalOf (vramTest vram ∷ sliceTest mapSize map ∷ sliceTest frameSize frame-lent ∷ sliceTest notesSize notes ∷ blockTests (blockOf c)) ≡ frame.drawRefusal c vram map frame-lent notes
+    draw-refusal = block-as-state ready (vramTest vram ∷ sliceTest mapSize map ∷ sliceTest frameSize frame-lent ∷ sliceTest notesSize notes ∷ []) []
+
+    line-refusal : (line : List ℕ) (l : ℕ) → refusalOf (vramTest vram ∷ sliceTest scanline.lineSize line ∷ sliceTest blockSize (blockOf c) ∷ blockTest (blockOf c) ∷ lineTest l ∷ []) ≡ scanline.drawLineRefusal c vram line l
+    line-refusal line l = block-as-state ready (vramTest vram ∷ sliceTest scanline.lineSize line ∷ []) (lineTest l ∷ [])
+
+    read-refusal : (s : List ℕ) → refusalOf (sliceTest blockSize (blockOf c) ∷ snapshot.readTests vram s) ≡ snapshot.readRefusal vram s
+    read-refusal s = block-dropped ready [] (snapshot.readTests vram s)
+
+    save-refusal : (s : List ℕ) → refusalOf (vramTest vram ∷ sizeTest s ∷ blockTests (blockOf c)) ≡ snapshot.writeRefusal c vram s
+    save-refusal s = block-as-state ready (vramTest vram ∷ sizeTest s ∷ []) []
+
+    read-eight : (s : List ℕ) → isAccepted (snapshot.readRefusal vram s) ≡ true → length (take 8 (stateBytes s)) ≡ 8
+    read-eight s ok =
+        let p = all-pass (snapshot.readTests vram s) (refl, (refl, (refl, (refl, (refl, tt))))) ok in
+        let long = length-state s (eqb-true _ _ (p .1 .0)) in
+        length-take-le 8 (stateBytes s) (omega arith)
+
+    count-small : dueCount (c .redraw) r vram map < 256
+    count-small = let most = count-le lineCount (due (c .redraw) r vram map) in omega arith
+
+    line-small : boolByte (interruptOn c) < 256
+    line-small = let most = bit-small (interruptOn c) in omega arith
+
+    by-op : (op : Op) → Claim op
+    by-op powerUp =
+        same-step (through-same ready (chip.powerUpRefusal vram) power-up-refusal (λ s. chip.powerUp s vram) powerUpState 0 refl (λ ok. refl) (lit< tt))
+        (list-same ready (chip.powerUpRefusal vram) power-up-refusal (λ s. chip.powerUpVram vram) clearedVram vram refl) refl refl refl refl
+    by-op (controlWrite x) =
+        same-step (through-same ready (refusalOf (vramTest vram ∷ stateTest c ∷ [])) vram-refusal (λ s. chip.controlWrite s vram x) (control x vram c) 0 refl (λ ok. eight-control x vram c eight .is) (lit< tt))
+        refl refl refl refl refl
+    by-op (dataWrite x) =
+        same-step (through-same ready (chip.dataWriteRefusal c vram map) write-refusal (λ s. chip.dataWrite s vram map x) (dataWritten x c) 0 refl (λ ok. eight) (lit< tt))
+        (list-same ready (chip.dataWriteRefusal c vram map) write-refusal (λ s. chip.dataWriteVram s vram map x) (stored x c vram) vram refl)
+        (list-same ready (chip.dataWriteRefusal c vram map) write-refusal (λ s. chip.dataWriteMap s vram map) (marked map (c .address)) map refl)
+        refl refl refl
+    by-op readData =
+        same-step (through-same ready (refusalOf (vramTest vram ∷ stateTest c ∷ [])) vram-refusal (λ s. chip.readData s vram) (dataRead vram c) (c .buffer) refl (λ ok. eight) (ready .fits .buffer))
+        refl refl refl refl refl
+    by-op readStatus =
+        same-step (through-same ready (refusalOf (stateTest c ∷ [])) state-refusal chip.readStatus (statusRead c) (c .status) refl (λ ok. eight) (ready .fits .status))
+        refl refl refl refl refl
+    by-op endOfDisplay =
+        same-step (through-same ready (refusalOf (stateTest c ∷ [])) state-refusal chip.endOfDisplay (displayEnded c) 0 refl (λ ok. eight) (lit< tt)) refl refl refl refl refl
+    by-op interruptLine =
+        same-step (through-same ready (refusalOf (stateTest c ∷ [])) state-refusal chip.interruptLine c (boolByte (interruptOn c)) refl (λ ok. eight) line-small) refl refl refl refl refl
+    by-op reset =
+        same-step (through-same ready (refusalOf (stateTest c ∷ [])) state-refusal chip.reset (wasReset c) 0 refl (λ ok. length-set (set r 0 0) 1 0 ∙ length-set r 0 0 ∙ eight) (lit< tt)) refl refl refl refl refl
+    by-op (drawLine line l) =
+        same-step (through-same ready (scanline.drawLineRefusal c vram line l) (line-refusal line l) (λ s. scanline.drawLine s vram line l) (withStatus (statusAfter (c .status) (scanline.noteAt r vram l)) c) 0 refl (λ ok. eight) (lit< tt))
+        refl refl refl refl
+        (list-same ready (scanline.drawLineRefusal c vram line l) (line-refusal line l) (λ s. scanline.drawLineLine s vram line l) (scanline.colours r vram l) line refl)
+    by-op fullDraw =
+        same-step (through-same ready (frame.drawRefusal c vram map frame-lent notes) draw-refusal (λ s. frame.fullDraw s vram map frame-lent notes) (drawnState c (notesOf r vram)) 0 refl (λ ok. eight) (lit< tt))
+        refl
+        (list-same ready (frame.drawRefusal c vram map frame-lent notes) draw-refusal (λ s. frame.drawMap s vram map frame-lent notes) clearMap map refl)
+        (list-same ready (frame.drawRefusal c vram map frame-lent notes) draw-refusal (λ s. frame.fullDrawFrame s vram map frame-lent notes) (frameOf r vram) frame-lent refl)
+        (list-same ready (frame.drawRefusal c vram map frame-lent notes) draw-refusal (λ s. frame.fullDrawNotes s vram map frame-lent notes) (notesOf r vram) notes refl)
+        refl
+    by-op refresh =
+        let n : List ℕ = newNotes (c .redraw) r vram map notes in
+        same-step (through-same ready (frame.drawRefusal c vram map frame-lent notes) draw-refusal (λ s. frame.refresh s vram map frame-lent notes) (drawnState c n) (dueCount (c .redraw) r vram map) refl (λ ok. eight) count-small)
+        refl
+        (list-same ready (frame.drawRefusal c vram map frame-lent notes) draw-refusal (λ s. frame.drawMap s vram map frame-lent notes) clearMap map refl)
+        (list-same ready (frame.drawRefusal c vram map frame-lent notes) draw-refusal (λ s. frame.refreshFrame s vram map frame-lent notes) (newFrame (c .redraw) r vram map frame-lent) frame-lent refl)
+        (list-same ready (frame.drawRefusal c vram map frame-lent notes) draw-refusal (λ s. frame.refreshNotes s vram map frame-lent notes) n notes refl)
+        refl
+    by-op (readSnapshot s) =
+        same-step (through-same ready (snapshot.readRefusal vram s) (read-refusal s) (λ k. snapshot.readSnapshot k vram s) (decoded (stateBytes s) true) 0 refl (read-eight s) (lit< tt))
+        (list-same ready (snapshot.readRefusal vram s) (read-refusal s) (λ k. snapshot.readVram vram s) (vramBytes s) vram refl) refl refl refl refl
+    by-op (writeSnapshot s) =
+        same-step (through-same ready (snapshot.writeRefusal c vram s) (save-refusal s) (λ k. snapshot.writeSnapshot k vram s) c 0 refl (λ ok. eight) (lit< tt))
+        refl refl refl refl
+        (list-same ready (snapshot.writeRefusal c vram s) (save-refusal s) (λ k. snapshot.written k vram s) (snapshotOf c vram) s refl)
