@@ -10,3 +10,6 @@ pub mod Refused
 pub mod Draws
 pub mod Direct
 pub mod FromC
+pub mod Wrong
+pub mod Keeps
+pub mod Accepted

@@ -134,7 +134,7 @@ module _ (call : Call) (b : Bench) where
     line-small : boolByte (interruptOn c) < 256
     line-small = let most = bit-small (interruptOn c) in omega arith
 
-    by-op : (op : Op) → Claim op
+    pub by-op : (op : Op) → Claim op
     by-op powerUp =
         same-step (through-same ready (chip.powerUpRefusal vram) power-up-refusal (λ s. chip.powerUp s vram) powerUpState 0 refl (λ ok. refl) (lit< tt))
         (list-same ready (chip.powerUpRefusal vram) power-up-refusal (λ s. chip.powerUpVram vram) clearedVram vram refl) refl refl refl refl

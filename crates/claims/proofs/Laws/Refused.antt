@@ -22,7 +22,7 @@ use Rattle.claims.proofs.Laws.Lent.{back-same}
 
 -- what is left where a call is refused
 module _ {A : Type 0} where
-  the-old : (new : A) {old : A} {a : Bool} → a ≡ false → cond a new old ≡ old
+  pub the-old : (new : A) {old : A} {a : Bool} → a ≡ false → cond a new old ≡ old
   the-old new {old} e = λ i. cond (e i) new old
 
 module _ (b : Bench) (call : Call) where
