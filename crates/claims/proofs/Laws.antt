@@ -13,3 +13,4 @@ pub mod FromC
 pub mod Wrong
 pub mod Keeps
 pub mod Accepted
+pub mod Opens

@@ -30,7 +30,7 @@ use Rattle.claims.proofs.Laws.FromC.{by-op}
 use Rattle.claims.proofs.Laws.Wrong.{refused-number, wrong-refused}
 
 -- a call from C that answers less than 256 was accepted
-accepted-through : (r : Refusal) (block : List ℕ) (method : Chip → Answer) → through r block method .result / 256 ≡ 0 → isAccepted r ≡ true
+pub accepted-through : (r : Refusal) (block : List ℕ) (method : Chip → Answer) → through r block method .result / 256 ≡ 0 → isAccepted r ≡ true
 accepted-through r block method e = by (isAccepted r) refl
   where
     by : (a : Bool) → isAccepted r ≡ a → isAccepted r ≡ true
@@ -43,7 +43,7 @@ unfolding wellFormed
 held-well c eight holds = subst (λ (d : Chip). wellFormed d ≡ true) (chip-block c eight) (state-of (blockOf c) (and-right (leb (getD (blockOf c) 14 0) 1) (holdsState (blockOf c)) holds))
 
 -- this call made with what another was lent
-abbrev calling : Op → Call → Call
+abbrev pub calling : Op → Call → Call
 calling op call = record { op = op; caller = call .caller; vram = call .vram; map = call .map; frame = call .frame; notes = call .notes }
 
 named : (call : Call) {op : Op} → call .op ≡ op → call ≡ calling op call

@@ -16,7 +16,7 @@ use Rattle.chip.specs.declared.state.Chip.{Chip}
 use Rattle.chip.proofs.Laws.Refusals.{AllPass, AllRefuse, all-pass}
 use Rattle.scanline.specs.Notes.{statusAfter}
 use Rattle.frame.specs.Lines.{frameSize, notesSize}
-use Rattle.claims.specs.Bench.{Bench}
+use Rattle.claims.specs.Bench.{Bench, Lengths}
 use Rattle.claims.specs.Call.{Op, powerUp, controlWrite, dataWrite, dataRead as readData, statusRead as readStatus, endOfDisplay, interruptLine, reset, drawLine, fullDraw, refresh, readSnapshot, writeSnapshot, OpBytes, Lent, own, other, Call, Caller}
 use Rattle.claims.specs.Step.{lent, back, lentBench, benchBack, directly}
 use Rattle.scanline.specs.Calls.{lineSize, noteAt}
@@ -36,12 +36,19 @@ state-bytes : (s : List ℕ) → Bytes s → Bytes (stateBytes s)
 unfolding stateBytes
 state-bytes s bytes = bytes-part (trailerAt s - 14) 14 s bytes
 
-vram-bytes : (s : List ℕ) → Bytes s → Bytes (vramBytes s)
+pub vram-bytes : (s : List ℕ) → Bytes s → Bytes (vramBytes s)
 unfolding vramBytes
 vram-bytes s bytes = bytes-part (trailerAt s - 16398) 16384 s bytes
 
-ready-held : (s : List ℕ) → Bytes s → length s ≡ 16406 → holdsState (stateBytes s) ≡ true → Ready (decoded (stateBytes s) true)
+pub ready-held : (s : List ℕ) → Bytes s → length s ≡ 16406 → holdsState (stateBytes s) ≡ true → Ready (decoded (stateBytes s) true)
 ready-held s bytes whole holds = let long = length-state s whole in ready-decoded (stateBytes s) (state-bytes s bytes) (omega arith) holds
+
+-- State and VRAM replaced, and the mark set, on a bench in whatever state.
+pub good-replaced : (b : Bench) (call : Call) → Lengths b → (d : Chip) (new : List ℕ) → eqb (length (lent (call .vram) (b .vram))) vramSize ≡ true → d .redraw ≡ true → Ready d → length new ≡ vramSize → Bytes new
+    → Good (bench d (back (call .vram) new (b .vram)) (back (call .map) (lent (call .map) (b .map)) (b .map)) (back (call .frame) (lent (call .frame) (b .frame)) (b .frame)) (back (call .notes) (lent (call .notes) (b .notes)) (b .notes)))
+good-replaced b call lengths d new room mark ready long bytes =
+    good-same d (back-own (call .vram) (b .vram) new room) (back-same (call .map) (b .map)) (back-same (call .frame) (b .frame)) (back-same (call .notes) (b .notes))
+    (good-marked d new (b .map) (b .frame) (b .notes) mark (record { vram = long; map = lengths .map; frame = lengths .frame; notes = lengths .notes }) ready bytes)
 
 module _ {b : Bench} (good : Good b) (call : Call) where
   abbrev v : Lent vramSize
@@ -86,9 +93,7 @@ module _ {b : Bench} (good : Good b) (call : Call) where
   replaced ts refuse d new room mark ready long bytes =
       settle (λ a. Good (after (cond a d c) (cond a new vram) (lent m (b .map)) (lent f (b .frame)) (lent n (b .notes)))) (isAccepted (refusalOf ts))
       (good-back v m f n good)
-      (λ ok. let p = all-pass ts refuse ok in
-        good-same d (back-own v (b .vram) new (room p)) (back-same m (b .map)) (back-same f (b .frame)) (back-same n (b .notes))
-        (good-marked d new (b .map) (b .frame) (b .notes) mark (record { vram = long p; map = good .lengths .map; frame = good .lengths .frame; notes = good .lengths .notes }) (ready p) (bytes p)))
+      (λ ok. let p = all-pass ts refuse ok in good-replaced b call (good .lengths) d new (room p) mark (ready p) (long p) (bytes p))
 
   written-keeps : (x : ℕ) → x < 256 → let map = lent m (b .map) in let ts = vramTest vram ∷ sliceTest mapSize map ∷ stateTest c ∷ [] in
       Good (after (ifAccepted (refusalOf ts) (dataWritten x c) c) (ifAccepted (refusalOf ts) (stored x c vram) vram) (ifAccepted (refusalOf ts) (marked map (c .address)) map) (lent f (b .frame)) (lent n (b .notes)))
