@@ -20,6 +20,8 @@ enum {
     VDP_VRAM_SIZE = 16384,
     VDP_MAP_SIZE = 2048,
     VDP_LINE_SIZE = 256,
+    VDP_FRAME_SIZE = 49152,
+    VDP_NOTES_SIZE = 192,
     VDP_SNAPSHOT_SIZE = 16406
 };
 
@@ -65,6 +67,16 @@ uint32_t vdp_interrupt_line(const uint8_t *block, size_t block_len);
 
 /* Draws line number 0 to 191 into 256 bytes, one colour (0 to 15) each. Status follows the line. */
 uint32_t vdp_draw_line(uint8_t *block, size_t block_len, const uint8_t *vram, size_t vram_len, uint8_t *line, size_t line_len, uint32_t number);
+
+/* A frame is 192 lines, each as vdp_draw_line draws it. The notes have a byte for each line: what status
+ * is told of its sprites. Both keep what the last call left in them, and map and redraw mark say which
+ * lines have changed since. */
+
+/* Full draw: every line into the frame, with its note. Status follows them; map and mark are cleared. */
+uint32_t vdp_full_draw(uint8_t *block, size_t block_len, const uint8_t *vram, size_t vram_len, uint8_t *map, size_t map_len, uint8_t *frame, size_t frame_len, uint8_t *notes, size_t notes_len);
+
+/* Refresh: redraws the lines that are due, and answers how many (0 to 192). The rest is as in a full draw. */
+uint32_t vdp_refresh(uint8_t *block, size_t block_len, const uint8_t *vram, size_t vram_len, uint8_t *map, size_t map_len, uint8_t *frame, size_t frame_len, uint8_t *notes, size_t notes_len);
 
 /* Reset: clears registers 0 and 1, status and the waiting byte. */
 uint32_t vdp_reset(uint8_t *block, size_t block_len);
