@@ -1,9 +1,9 @@
 /* Birdcleft: a proved model of the TMS9918A video display processor.
  *
  * Each call takes the chip's state as a lent block of 15 bytes and answers one number: 256 times the
- * refusal number, plus the byte read (0 if none; the interrupt line as 1 or 0). A refused call leaves
- * the block and every slice as they were. Slices of one call do not overlap, and no pointer is null,
- * also where a length is 0. */
+ * refusal number, plus the byte read (0 if none; the interrupt line as 1 or 0; of a refresh, how many
+ * lines it redrew). A refused call leaves the block and every slice as they were. Slices of one call do
+ * not overlap, and no pointer is null, also where a length is 0. */
 #ifndef BIRDCLEFT_H
 #define BIRDCLEFT_H
 
@@ -20,6 +20,8 @@ enum {
     VDP_VRAM_SIZE = 16384,
     VDP_MAP_SIZE = 2048,
     VDP_LINE_SIZE = 256,
+    VDP_FRAME_SIZE = 49152,
+    VDP_NOTES_SIZE = 192,
     VDP_SNAPSHOT_SIZE = 16406
 };
 
@@ -65,6 +67,16 @@ uint32_t vdp_interrupt_line(const uint8_t *block, size_t block_len);
 
 /* Draws line number 0 to 191 into 256 bytes, one colour (0 to 15) each. Status follows the line. */
 uint32_t vdp_draw_line(uint8_t *block, size_t block_len, const uint8_t *vram, size_t vram_len, uint8_t *line, size_t line_len, uint32_t number);
+
+/* A frame has lines 0 to 191 end to end. Each line has a note: the number of its fifth sprite, or 32 if
+ * there is none, plus 64 if sprites coincide. */
+
+/* Full draw: every line into the frame, and its note. Status follows the notes; map and redraw mark are cleared. */
+uint32_t vdp_full_draw(uint8_t *block, size_t block_len, const uint8_t *vram, size_t vram_len, uint8_t *map, size_t map_len, uint8_t *frame, size_t frame_len, uint8_t *notes, size_t notes_len);
+
+/* Refresh: as a full draw, of the lines alone that the redraw mark or the map makes due; answers how many.
+ * Frame and notes are those that the last full draw or refresh left. */
+uint32_t vdp_refresh(uint8_t *block, size_t block_len, const uint8_t *vram, size_t vram_len, uint8_t *map, size_t map_len, uint8_t *frame, size_t frame_len, uint8_t *notes, size_t notes_len);
 
 /* Reset: clears registers 0 and 1, status and the waiting byte. */
 uint32_t vdp_reset(uint8_t *block, size_t block_len);

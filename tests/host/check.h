@@ -26,6 +26,27 @@ struct lent {
     uint8_t map[VDP_MAP_SIZE + 1];
 };
 
+/* Lengths of what is lent, the right one first. */
+static const size_t block_lens[] = { 15, 14, 16, 0 };
+static const size_t vram_lens[] = { 16384, 16383, 16385, 0 };
+static const size_t map_lens[] = { 2048, 2047, 2049, 0 };
+
+/* The ways in which the contents of a block can be wrong; the first leaves them right. */
+enum { WAYS = 11 };
+static void spoil(uint8_t *block, int way)
+{
+    static const int masked[] = { 0, 1, 2, 4, 5, 6 };
+    static const uint8_t outside[] = { 0x04, 0x04, 0x10, 0x08, 0x80, 0x08 };
+    switch (way) {
+    case 0: break;
+    case 1: block[9] = 0x40; break;                      /* an address of 16,384 or more */
+    case 2: block[11] = 2; break;                        /* a waiting flag that is not 0 or 1 */
+    case 3: block[11] = 0; break;                        /* a first byte while none waits */
+    case 4: block[14] = 2; break;                        /* a redraw mark that is not 0 or 1 */
+    default: block[masked[way - 5]] |= outside[way - 5]; /* a register outside its mask */
+    }
+}
+
 static int finish(const char *name)
 {
     printf("%s: %d passed, %d failed\n", name, passed, failed);

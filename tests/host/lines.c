@@ -30,27 +30,9 @@ static void fill(void)
     memset(now.line, 0xEE, sizeof now.line);
 }
 
-static const size_t block_lens[] = { 15, 14, 16, 0 };
-static const size_t vram_lens[] = { 16384, 16383, 16385, 0 };
 static const size_t line_lens[] = { 256, 255, 257, 0 };
 static const uint32_t numbers[] = { 191, 0, 192, 255, 256, 447, 0xFFFFFFFF };
 enum { GOOD_NUMBERS = 2, NUMBERS = 7 };
-
-/* The ways in which the contents of a block can be wrong; the first leaves them right. */
-static void spoil(int way)
-{
-    static const int masked[] = { 0, 1, 2, 4, 5, 6 };
-    static const uint8_t outside[] = { 0x04, 0x04, 0x10, 0x08, 0x80, 0x08 };
-    switch (way) {
-    case 0: break;
-    case 1: now.lent.block[9] = 0x40; break;                      /* an address of 16,384 or more */
-    case 2: now.lent.block[11] = 2; break;                        /* a waiting flag that is not 0 or 1 */
-    case 3: now.lent.block[11] = 0; break;                        /* a first byte while none waits */
-    case 4: now.lent.block[14] = 2; break;                        /* a redraw mark that is not 0 or 1 */
-    default: now.lent.block[masked[way - 5]] |= outside[way - 5]; /* a register outside its mask */
-    }
-}
-enum { WAYS = 11 };
 
 /* Every combination of lengths, contents and line numbers: the first test that fails, in the order 1, 2, 3, 4,
  * decides. */
@@ -59,7 +41,7 @@ static void refusal(int v, int x, int b, int way, int n)
     unsigned want = v ? VDP_VRAM_LENGTH : x || b ? VDP_SLICE_LENGTH : way ? VDP_ILL_FORMED : n >= GOOD_NUMBERS ? VDP_LINE_NUMBER : VDP_ACCEPTED;
     char what[160];
     fill();
-    spoil(way);
+    spoil(now.lent.block, way);
     before = now;
     uint32_t got = draw(block_lens[b], vram_lens[v], line_lens[x], numbers[n]);
     snprintf(what, sizeof what, "draw_line: vram %zu, line %zu, block %zu, contents %d, number %u: answer %u, refusal %u wanted", vram_lens[v], line_lens[x], block_lens[b], way, (unsigned)numbers[n], (unsigned)got, want);

@@ -38,26 +38,6 @@ static void fill(void)
     now.block[VDP_BLOCK_SIZE] = 0x77;
 }
 
-static const size_t block_lens[] = { 15, 14, 16, 0 };
-static const size_t vram_lens[] = { 16384, 16383, 16385, 0 };
-static const size_t map_lens[] = { 2048, 2047, 2049, 0 };
-
-/* The ways in which the contents of a block can be wrong; the first leaves them right. */
-static void spoil(int way)
-{
-    static const int masked[] = { 0, 1, 2, 4, 5, 6 };
-    static const uint8_t outside[] = { 0x04, 0x04, 0x10, 0x08, 0x80, 0x08 };
-    switch (way) {
-    case 0: break;
-    case 1: now.block[9] = 0x40; break;                      /* an address of 16,384 or more */
-    case 2: now.block[11] = 2; break;                        /* a waiting flag that is not 0 or 1 */
-    case 3: now.block[11] = 0; break;                        /* a first byte while none waits */
-    case 4: now.block[14] = 2; break;                        /* a redraw mark that is not 0 or 1 */
-    default: now.block[masked[way - 5]] |= outside[way - 5]; /* a register outside its mask */
-    }
-}
-enum { WAYS = 11 };
-
 /* Every combination of lengths and contents: the first test that fails, in the order 1, 2, 3, decides. */
 static void refusals(enum call call)
 {
@@ -68,7 +48,7 @@ static void refusals(enum call call)
                     unsigned want = v ? VDP_VRAM_LENGTH : m || b ? VDP_SLICE_LENGTH : way && tests_contents[call] ? VDP_ILL_FORMED : VDP_ACCEPTED;
                     char what[128];
                     fill();
-                    spoil(way);
+                    spoil(now.block, way);
                     before = now;
                     uint32_t got = make(call, block_lens[b], vram_lens[v], map_lens[m]);
                     snprintf(what, sizeof what, "%s: vram %zu, map %zu, block %zu, contents %d: answer %u, refusal %u wanted", names[call], vram_lens[v], map_lens[m], block_lens[b], way, (unsigned)got, want);

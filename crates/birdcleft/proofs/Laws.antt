@@ -1,4 +1,5 @@
 -- Laws about a call through a block, for the proofs of the calls and for the crates above.
+pub mod Frames
 pub mod Lines
 pub mod Snapshots
 use Prim.Native.Nat.{ℕ, _*_}

@@ -9,6 +9,7 @@ use chip::Answer;
 use chip::Chip;
 use chip::Refusal;
 
+mod frames;
 mod lines;
 mod snapshots;
 

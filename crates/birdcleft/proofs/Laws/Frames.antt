@@ -1,0 +1,71 @@
+-- Full draw and refresh: one refusal, and what follows it.
+use Prim.Native.Nat.{ℕ, _*_}
+use native.Mathlib.Omega.{arith}
+use mathlib.Core.Path.{_≡_, refl, ap}
+use mathlib.Core.Bool.{Bool, true, false}
+use mathlib.Core.List.{List, [], _∷_}
+use borrow.Author.Tests.{eqb-true}
+use lib.Dec.{eqb}
+use lib.ListN.{length}
+use Rattle.chip.specs.Refusals.{numberOf, resultOf, Test, refusalOf, ifAccepted}
+use Rattle.chip.specs.Layout.{blockOf, chipOf, holdsBlock}
+use Rattle.chip.specs.declared.state.Chip.{Chip}
+use Rattle.chip.specs.declared.refusal.Answer.{Answer}
+use Rattle.chip.specs.declared.refusal.Refusal.{Refusal}
+use Rattle.chip.specs.declared.refusal.Refusal.the-variants.{VramLength, SliceLength, IllFormed}
+use Rattle.birdcleft.specs.Calls.{through}
+use Rattle.birdcleft.specs.Frames.{drawRefusal}
+use Rattle.birdcleft.proofs.Laws.{accepted-of, refused-through, refused-keeps, accepted-through, accepted-takes}
+
+abbrev tests : Bool → Bool → Bool → Bool → Bool → Bool → List Test
+tests v m f n b s =
+    record { refusal = VramLength; passes = v }
+    ∷ record { refusal = SliceLength; passes = m }
+    ∷ record { refusal = SliceLength; passes = f }
+    ∷ record { refusal = SliceLength; passes = n }
+    ∷ record { refusal = SliceLength; passes = b }
+    ∷ record { refusal = IllFormed; passes = s }
+    ∷ []
+
+-- where all pass, the block's length does
+block-passes : (v m f n b s : Bool) → numberOf (refusalOf (tests v m f n b s)) ≡ 0 → b ≡ true
+block-passes false m f n b s e = absurd (omega arith)
+block-passes true false f n b s e = absurd (omega arith)
+block-passes true true false n b s e = absurd (omega arith)
+block-passes true true true false b s e = absurd (omega arith)
+block-passes true true true true false s e = absurd (omega arith)
+block-passes true true true true true s e = refl
+
+-- what a call answers, and what the block, the map, the frame and the notes then hold
+module _ (r : Refusal) (block map frame notes : List ℕ) (method : Chip → Answer) (newMap newFrame newNotes : List ℕ) where
+  abbrev Leaves : ℕ → List ℕ → List ℕ → List ℕ → List ℕ → Type 0
+  Leaves x b m f n =
+      (x ≡ through r block method .result)
+      × ((b ≡ through r block method .block)
+      × ((m ≡ ifAccepted r newMap map)
+      × ((f ≡ ifAccepted r newFrame frame)
+      × (n ≡ ifAccepted r newNotes notes))))
+
+-- x is 256 times the refusal's number
+module _ (block vram map frame notes : List ℕ) {x : ℕ} (number : x ≡ numberOf (drawRefusal block vram map frame notes) * 256) where
+  pub fifteen : x ≡ 0 → length block ≡ 15
+  fifteen none =
+      eqb-true _ _
+      (block-passes (eqb (length vram) 16384) (eqb (length map) 2048) (eqb (length frame) 49152) (eqb (length notes) 192) (eqb (length block) 15) (holdsBlock block)
+      (ap numberOf (accepted-of (drawRefusal block vram map frame notes) number none)))
+
+  module _ (method : Chip → Answer) (newMap newFrame newNotes : List ℕ) where
+    -- a refused call leaves all that it was lent
+    pub refused-draw : (x ≡ 0 → ⊥) → Leaves (drawRefusal block vram map frame notes) block map frame notes method newMap newFrame newNotes x block map frame notes
+    refused-draw taken =
+        let r = drawRefusal block vram map frame notes in
+        let t = refused-through block method r number taken in
+        (t .0, (t .1, (refused-keeps newMap map r number taken, (refused-keeps newFrame frame r number taken, refused-keeps newNotes notes r number taken))))
+
+    -- an accepted one leaves what the direct call does
+    pub accepted-draw : x ≡ 0 → {a : Answer} {m f n b : List ℕ} {y : ℕ} → (a ≡ method (chipOf block)) × ((m ≡ newMap) × ((f ≡ newFrame) × (n ≡ newNotes))) → (y ≡ resultOf a) × (b ≡ blockOf (a .chip)) → Leaves (drawRefusal block vram map frame notes) block map frame notes method newMap newFrame newNotes y b m f n
+    accepted-draw none direct stored =
+        let r = drawRefusal block vram map frame notes in
+        let ok = accepted-of r number none in
+        let t = accepted-through block method r ok (direct .0) (stored .0) (stored .1) in
+        (t .0, (t .1, (accepted-takes newMap map r ok (direct .1 .0), (accepted-takes newFrame frame r ok (direct .1 .1 .0), accepted-takes newNotes notes r ok (direct .1 .1 .1)))))
