@@ -1,0 +1,83 @@
+-- What holds after any list of calls.
+use Prim.Native.Nat.{ℕ}
+use mathlib.Core.Path.{_≡_, refl, sym, ap, _∙_}
+use mathlib.Core.Bool.{true}
+use mathlib.Core.List.{List, [], _∷_}
+use lib.ListN.{length}
+use borrow.Author.Tests.{eq-eqb}
+use Rattle.chip.specs.State.{wellFormed}
+use Rattle.chip.specs.Map.{mapSize}
+use Rattle.chip.specs.Refusals.{Test, numberOf, refusalOf, vramTest, sliceTest, stateTest, lineTest}
+use Rattle.chip.specs.declared.refusal.Refusal.the-variants.{Accepted}
+use Rattle.chip.proofs.Laws.Refusals.{all-accepted}
+use Rattle.scanline.specs.Calls.{lineSize}
+use Rattle.frame.specs.Lines.{frameSize, notesSize}
+use Rattle.snapshot.specs.Tests.{sizeTest, trailerTest, sumTest, contentsTest}
+use Rattle.claims.specs.Bench.{Bench, Lengths, Typed}
+use Rattle.claims.specs.Call.{Op, powerUp, controlWrite, dataWrite, dataRead, statusRead, endOfDisplay, interruptLine, reset, drawLine, fullDraw, refresh, readSnapshot, writeSnapshot, own, direct, fromC, Call, CallsBytes, whole}
+use Rattle.claims.specs.Refusals.{ownTests, Opens}
+use Rattle.claims.specs.Step.{Step, directly, step, run}
+use Rattle.claims.proofs.Laws.States.{Ready}
+use Rattle.claims.proofs.Laws.Tests.{passed-dropped}
+use Rattle.claims.proofs.Laws.FromC.{by-op}
+use Rattle.claims.proofs.Laws.Keeps.{run-keeps}
+use Rattle.claims.proofs.Laws.Opens.{opens}
+
+-- Of a bench in order the tests of state and lists pass, so that what is the call's own decides.
+module _ (b : Bench) (ready : Ready (b .chip)) (lengths : Lengths b) where
+  abbrev v : Test
+  v = vramTest (b .vram)
+
+  abbrev s : Test
+  s = stateTest (b .chip)
+
+  -- neither draw has anything of its own
+  nothing-refuses : directly fullDraw b .answer .refusal ≡ Accepted
+  nothing-refuses =
+      all-accepted (v ∷ sliceTest mapSize (b .map) ∷ sliceTest frameSize (b .frame) ∷ sliceTest notesSize (b .notes) ∷ s ∷ [])
+      (eq-eqb _ _ (lengths .vram), (eq-eqb _ _ (lengths .map), (eq-eqb _ _ (lengths .frame), (eq-eqb _ _ (lengths .notes), (ready .well-formed, tt)))))
+
+  own-decides : (op : Op) → directly op b .answer .refusal ≡ refusalOf (ownTests op)
+  own-decides powerUp = passed-dropped [] (v ∷ []) [] (eq-eqb _ _ (lengths .vram), tt)
+  own-decides (controlWrite x) = passed-dropped [] (v ∷ s ∷ []) [] (eq-eqb _ _ (lengths .vram), (ready .well-formed, tt))
+  own-decides (dataWrite x) = passed-dropped [] (v ∷ sliceTest mapSize (b .map) ∷ s ∷ []) [] (eq-eqb _ _ (lengths .vram), (eq-eqb _ _ (lengths .map), (ready .well-formed, tt)))
+  own-decides dataRead = passed-dropped [] (v ∷ s ∷ []) [] (eq-eqb _ _ (lengths .vram), (ready .well-formed, tt))
+  own-decides statusRead = passed-dropped [] (s ∷ []) [] (ready .well-formed, tt)
+  own-decides endOfDisplay = passed-dropped [] (s ∷ []) [] (ready .well-formed, tt)
+  own-decides interruptLine = passed-dropped [] (s ∷ []) [] (ready .well-formed, tt)
+  own-decides reset = passed-dropped [] (s ∷ []) [] (ready .well-formed, tt)
+  own-decides (drawLine line l) =
+      passed-dropped [] (v ∷ []) (sliceTest lineSize line ∷ s ∷ lineTest l ∷ []) (eq-eqb _ _ (lengths .vram), tt)
+      ∙ passed-dropped (sliceTest lineSize line ∷ []) (s ∷ []) (lineTest l ∷ []) (ready .well-formed, tt)
+  own-decides fullDraw = nothing-refuses
+  own-decides refresh = nothing-refuses
+  own-decides (readSnapshot k) = passed-dropped [] (v ∷ []) (sizeTest k ∷ trailerTest k ∷ sumTest k ∷ contentsTest k ∷ []) (eq-eqb _ _ (lengths .vram), tt)
+  own-decides (writeSnapshot k) = passed-dropped [] (v ∷ []) (sizeTest k ∷ s ∷ []) (eq-eqb _ _ (lengths .vram), tt) ∙ passed-dropped (sizeTest k ∷ []) (s ∷ []) [] (ready .well-formed, tt)
+
+-- Take a bench whose four lists have their lengths, whose state fits its types and whose VRAM holds bytes, and a power-up,
+-- a snapshot read or a full draw of it that is accepted; then any list of calls, of which nothing is asked but that the bytes
+-- they bring are bytes. Then the state is well-formed and fits its types, VRAM holds bytes, and the lists have their lengths.
+-- So a call that is lent the bench's own lists, directly or from C with the state's own block, is answered the refusal that
+-- what is its own gives: its slice for a line and the line's number, or its snapshot. All other calls are accepted, a refresh
+-- among them, and the claim of demand 3 is not empty.
+--
+-- It rests on the same `step` (specs/Step.antt). Demand 2's "after any calls" rests on it: the contracts say what each call
+-- does in a well-formed state, and this says that no list of calls leads to another.
+pub after-any-calls :
+    (start : Bench) → Lengths start → Typed start
+    → (first : Call) → Opens (first .op) → step start first .reply .refusal ≡ 0
+    → (calls : List Call) → CallsBytes calls
+    → let b = run (step start first .bench) calls in
+    (wellFormed (b .chip) ≡ true) × Typed b × Lengths b
+    × ((op : Op) → (step b (whole op direct) .reply .refusal ≡ numberOf (refusalOf (ownTests op))) × (step b (whole op (fromC own)) .reply .refusal ≡ numberOf (refusalOf (ownTests op))))
+unfolding step
+after-any-calls start lengths typed first o accepted calls bytes =
+    let good = run-keeps (opens start first lengths typed o accepted) calls bytes in
+    let b = run (step start first .bench) calls in
+    let answers : (op : Op) → step b (whole op direct) .reply .refusal ≡ numberOf (refusalOf (ownTests op)) = λ op. ap numberOf (own-decides b (good .ready) (good .lengths) op) in
+    (
+      good .ready .well-formed,
+      record { chip = good .ready .fits; vram = good .bytes },
+      good .lengths,
+      λ op. (answers op, ap (λ (s : Step). s .reply .refusal) (by-op (whole op (fromC own)) b (good .ready) op) ∙ answers op),
+    )
