@@ -81,3 +81,12 @@ after-any-calls start lengths typed first o accepted calls bytes =
       good .lengths,
       λ op. (answers op, ap (λ (s : Step). s .reply .refusal) (by-op (whole op (fromC own)) b (good .ready) op) ∙ answers op),
     )
+
+-- So after any such list a refresh is accepted, directly and from C.
+pub refresh-accepted :
+    (start : Bench) → Lengths start → Typed start
+    → (first : Call) → Opens (first .op) → step start first .reply .refusal ≡ 0
+    → (calls : List Call) → CallsBytes calls
+    → let b = run (step start first .bench) calls in
+    (step b (whole refresh direct) .reply .refusal ≡ 0) × (step b (whole refresh (fromC own)) .reply .refusal ≡ 0)
+refresh-accepted start lengths typed first o accepted calls bytes = after-any-calls start lengths typed first o accepted calls bytes .3 refresh
