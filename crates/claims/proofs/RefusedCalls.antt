@@ -1,24 +1,22 @@
 -- Refused calls, and calls from C.
 use Prim.Native.Nat.{ℕ}
-use mathlib.Core.Path.{_≡_, refl, sym, ap, subst⁻¹, _∙_}
+use mathlib.Core.Path.{_≡_, refl, sym, ap, _∙_}
 use mathlib.Core.Bool.{Bool, true, false, _||_, _&&_}
 use mathlib.Core.List.{List, [], _∷_}
 use lib.Dec.{eqb}
 use lib.ListN.{length}
-use borrow.Author.Tests.{eqb-true, eqb-false, eq-eqb, ne-eqb}
+use borrow.Author.Tests.{eqb-true, eq-eqb, ne-eqb}
 use Rattle.chip.specs.State.{Fits, wellFormed}
 use Rattle.chip.specs.Map.{mapSize}
-use Rattle.chip.specs.Refusals.{Test, numberOf, isAccepted, refusalOf, vramTest, sliceTest, stateTest, lineTest}
+use Rattle.chip.specs.Refusals.{Test, isAccepted, refusalOf, vramTest, sliceTest, stateTest, lineTest}
 use Rattle.chip.proofs.Laws.Refusals.{AllPass, AllRefuse, all-pass, differ}
 use Rattle.scanline.specs.Calls.{lineSize}
-use Rattle.frame.specs.Lines.{frameSize, notesSize}
 use Rattle.snapshot.specs.Tests.{sizeTest}
 use Rattle.snapshot.specs.Calls.{readTests}
 use Rattle.claims.specs.Bench.{Bench}
 use Rattle.claims.specs.Call.{Op, powerUp, controlWrite, dataWrite, dataRead, statusRead, endOfDisplay, interruptLine, reset, drawLine, fullDraw, refresh, readSnapshot, writeSnapshot, Lent, own, other, Caller, direct, fromC, Call}
 use Rattle.claims.specs.Refusals.{takesVram, takesMap, takesFrame, isOther, otherBlock, wronglyLent}
-use Rattle.claims.specs.Step.{lent, lentBench, directly, Step, stepBy, stepDirect, step}
-use Rattle.claims.proofs.Laws.States.{Ready}
+use Rattle.claims.specs.Step.{lent, lentBench, directly, Step, stepBy, step}
 use Rattle.claims.proofs.Laws.Draws.{drawTests, passed}
 use Rattle.claims.proofs.Laws.Refused.{direct-refused}
 use Rattle.claims.proofs.Laws.FromC.{by-op}

@@ -1,15 +1,15 @@
 -- What accepted draws leave, however they were called.
 use Prim.Native.Nat.{ℕ, _/_}
 use mathlib.Core.Path.{_≡_, refl, sym, ap, subst, subst⁻¹, _∙_}
-use mathlib.Core.Bool.{Bool, true, false, _&&_}
-use mathlib.Core.List.{List, [], _∷_}
+use mathlib.Core.Bool.{Bool, true, false}
+use mathlib.Core.List.{List, _∷_}
 use lib.Dec.{leb}
 use lib.ListN.{length, getD}
-use borrow.Author.Tests.{eqb-true, eq-eqb}
-use Rattle.chip.specs.State.{vramSize, Fits, wellFormed}
+use borrow.Author.Tests.{eq-eqb}
+use Rattle.chip.specs.State.{Fits, wellFormed}
 use Rattle.chip.specs.Map.{mapSize}
-use Rattle.chip.specs.Layout.{blockOf, chipOf, decoded, holdsState, holdsBlock, blockTests}
-use Rattle.chip.specs.Refusals.{Test, numberOf, isAccepted, refusalOf, vramTest, sliceTest}
+use Rattle.chip.specs.Layout.{blockOf, holdsState, holdsBlock, blockTests}
+use Rattle.chip.specs.Refusals.{numberOf, isAccepted, refusalOf, vramTest, sliceTest}
 use Rattle.chip.specs.declared.state.Chip.{Chip}
 use Rattle.chip.specs.declared.refusal.Answer.{Answer}
 use Rattle.chip.specs.declared.refusal.Refusal.{Refusal}
@@ -22,7 +22,7 @@ use Rattle.snapshot.proofs.Laws.Accepted.{state-of}
 use Rattle.birdcleft.specs.Calls.{through}
 use Rattle.claims.specs.Bench.{Bench, Lengths, Typed}
 use Rattle.claims.specs.Call.{Op, fullDraw, refresh, own, other, Caller, direct, fromC, Call, whole}
-use Rattle.claims.specs.Step.{Step, lentBench, directly, throughC, stepBy, stepDirect, stepFromC, step}
+use Rattle.claims.specs.Step.{Step, lentBench, stepBy, step}
 use Rattle.claims.proofs.Laws.States.{Ready}
 use Rattle.claims.proofs.Laws.Good.{bench, Good, drawn, good-drawn}
 use Rattle.claims.proofs.Laws.Draws.{drawTests, passed, full-drawn, refresh-drawn}

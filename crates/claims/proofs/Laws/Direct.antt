@@ -1,7 +1,7 @@
 -- Every direct call keeps the invariant, whatever it is lent.
 use native.Mathlib.Omega.{arith}
 use Prim.Native.Nat.{ℕ, _-_, _<_}
-use mathlib.Core.Path.{_≡_, refl, sym, ap, subst, subst⁻¹, _∙_}
+use mathlib.Core.Path.{_≡_, refl, ap, subst⁻¹, _∙_}
 use mathlib.Core.Bool.{Bool, true, false, cond}
 use mathlib.Core.List.{List, [], _∷_}
 use lib.Dec.{eqb}
@@ -17,7 +17,7 @@ use Rattle.chip.proofs.Laws.Refusals.{AllPass, AllRefuse, all-pass}
 use Rattle.scanline.specs.Notes.{statusAfter}
 use Rattle.frame.specs.Lines.{frameSize, notesSize}
 use Rattle.claims.specs.Bench.{Bench, Lengths}
-use Rattle.claims.specs.Call.{Op, powerUp, controlWrite, dataWrite, dataRead as readData, statusRead as readStatus, endOfDisplay, interruptLine, reset, drawLine, fullDraw, refresh, readSnapshot, writeSnapshot, OpBytes, Lent, own, other, Call, Caller}
+use Rattle.claims.specs.Call.{Op, powerUp, controlWrite, dataWrite, dataRead as readData, statusRead as readStatus, endOfDisplay, interruptLine, reset, drawLine, fullDraw, refresh, readSnapshot, writeSnapshot, OpBytes, Lent, Call}
 use Rattle.claims.specs.Step.{lent, back, lentBench, benchBack, directly}
 use Rattle.scanline.specs.Calls.{lineSize, noteAt}
 use Rattle.snapshot.specs.Tests.{sizeTest, stateBytes, vramBytes, trailerAt}
@@ -26,7 +26,7 @@ use Rattle.snapshot.proofs.Laws.Bytes.{bytes-part}
 use Rattle.snapshot.proofs.Laws.Parts.{length-state, length-vram}
 use Rattle.claims.proofs.Laws.States.{Ready, zeros, ready-decoded, ready-power-up, ready-control, ready-read, ready-status-read, ready-ended, ready-reset, ready-line}
 use Rattle.claims.proofs.Laws.Turns.{Turned, quiet, marks, control-turned}
-use Rattle.claims.proofs.Laws.Good.{bench, Good, good-marked, good-turned, good-written, drawn, good-drawn, refreshed, refreshed-drawn}
+use Rattle.claims.proofs.Laws.Good.{bench, Good, good-marked, good-turned, good-written, drawn, good-drawn}
 use Rattle.claims.proofs.Laws.Draws.{drawTests, full-drawn, refresh-drawn}
 use Rattle.claims.proofs.Laws.Refused.{direct-refused}
 use Rattle.claims.proofs.Laws.Lent.{lent-own, back-own, back-same, settle, good-same, good-back}

@@ -3,7 +3,6 @@ use Prim.Native.Nat.{ℕ}
 use mathlib.Core.Path.{_≡_, refl, ap, _∙_}
 use mathlib.Core.Bool.{true, cond}
 use mathlib.Core.List.{List, [], _∷_}
-use Rattle.chip.specs.State.{vramSize}
 use Rattle.chip.specs.Map.{mapSize}
 use Rattle.chip.specs.Refusals.{Test, isAccepted, refusalOf, vramTest, sliceTest, stateTest}
 use Rattle.chip.specs.declared.state.Chip.{Chip}
@@ -12,7 +11,7 @@ use Rattle.frame.specs.Lines.{frameSize, notesSize}
 use Rattle.frame.specs.Draw.{frameOf, notesOf, clearMap, drawnState}
 use Rattle.frame.specs.Due.{newFrame, newNotes}
 use Rattle.claims.specs.Bench.{Bench}
-use Rattle.claims.specs.Call.{fullDraw, refresh, Lent, Call, Caller}
+use Rattle.claims.specs.Call.{fullDraw, refresh, Call}
 use Rattle.claims.specs.Step.{lent, back, lentBench, benchBack, directly}
 use Rattle.claims.proofs.Laws.Good.{bench, Good, drawn, refreshed, refreshed-drawn}
 use Rattle.claims.proofs.Laws.Lent.{lent-own, back-own}

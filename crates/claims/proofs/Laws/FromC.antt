@@ -1,7 +1,7 @@
 -- From C, a call is the direct call.
-use Prim.Native.Nat.{ℕ, _+_, _*_, _/_, _%_, _≤_, _<_}
+use Prim.Native.Nat.{ℕ, _%_, _<_}
 use native.Mathlib.Omega.{arith}
-use mathlib.Core.Path.{_≡_, refl, sym, ap, _∙_}
+use mathlib.Core.Path.{_≡_, refl, _∙_}
 use mathlib.Core.Bool.{Bool, true, false, cond}
 use mathlib.Core.List.{List, [], _∷_}
 use lib.Dec.{leb, ltb, lit<}
@@ -9,11 +9,11 @@ use lib.ListN.{length, set, take, length-set}
 use lib.Seq.{length-take-le}
 use mir.Val.{boolByte}
 use borrow.Author.Tests.{eqb-true}
-use Rattle.chip.specs.State.{kept, powerUpState, withStatus, withAddress, withWaiting}
-use Rattle.chip.specs.Map.{mapSize, marked}
-use Rattle.chip.specs.Ports.{prefetched, registerWritten, controlBy, control, dataWritten, stored, dataRead, statusRead, displayEnded, interruptOn, wasReset, clearedVram}
+use Rattle.chip.specs.State.{kept, powerUpState, withStatus}
+use Rattle.chip.specs.Map.{mapSize}
+use Rattle.chip.specs.Ports.{controlBy, control, dataWritten, dataRead, statusRead, displayEnded, interruptOn, wasReset}
 use Rattle.chip.specs.Layout.{blockSize, blockOf, blockTest, blockTests, decoded}
-use Rattle.chip.specs.Refusals.{Test, isAccepted, refusalOf, vramTest, sliceTest, stateTest, lineTest}
+use Rattle.chip.specs.Refusals.{isAccepted, refusalOf, vramTest, sliceTest, stateTest, lineTest}
 use Rattle.chip.specs.Calls as chip
 use Rattle.chip.specs.declared.state.Chip.{Chip}
 use Rattle.chip.specs.declared.state.Waiting.{Waiting}
@@ -23,12 +23,11 @@ use Rattle.chip.proofs.Laws.Refusals.{all-pass}
 use Rattle.scanline.specs.Notes.{statusAfter}
 use Rattle.scanline.specs.Calls as scanline
 use Rattle.frame.specs.Lines.{frameSize, notesSize, lineCount}
-use Rattle.frame.specs.Draw.{frameOf, notesOf, clearMap, drawnState}
-use Rattle.frame.specs.Due.{due, newFrame, newNotes, dueCount}
+use Rattle.frame.specs.Draw.{notesOf, drawnState}
+use Rattle.frame.specs.Due.{due, newNotes, dueCount}
 use Rattle.frame.specs.Calls as frame
 use Rattle.frame.proofs.Laws.Lines.{bit-small, count-le}
-use Rattle.snapshot.specs.Format.{snapshotOf}
-use Rattle.snapshot.specs.Tests.{sizeTest, stateBytes, vramBytes}
+use Rattle.snapshot.specs.Tests.{sizeTest, stateBytes}
 use Rattle.snapshot.specs.Calls as snapshot
 use Rattle.snapshot.proofs.Laws.Parts.{length-state}
 use Rattle.birdcleft.specs.Calls.{FromC}
@@ -136,51 +135,51 @@ module _ (call : Call) (b : Bench) where
 
     pub by-op : (op : Op) → Claim op
     by-op powerUp =
-        same-step (through-same ready (chip.powerUpRefusal vram) power-up-refusal (λ s. chip.powerUp s vram) powerUpState 0 refl (λ ok. refl) (lit< tt))
-        (list-same ready (chip.powerUpRefusal vram) power-up-refusal (λ s. chip.powerUpVram vram) clearedVram vram refl) refl refl refl refl
+        same-step (through-same ready _ power-up-refusal _ powerUpState 0 refl (λ ok. refl) (lit< tt))
+        (list-same ready _ power-up-refusal (λ s. chip.powerUpVram vram) _ _ refl) refl refl refl refl
     by-op (controlWrite x) =
-        same-step (through-same ready (refusalOf (vramTest vram ∷ stateTest c ∷ [])) vram-refusal (λ s. chip.controlWrite s vram x) (control x vram c) 0 refl (λ ok. eight-control x vram c eight .is) (lit< tt))
+        same-step (through-same ready _ vram-refusal _ (control x vram c) 0 refl (λ ok. eight-control x vram c eight .is) (lit< tt))
         refl refl refl refl refl
     by-op (dataWrite x) =
-        same-step (through-same ready (chip.dataWriteRefusal c vram map) write-refusal (λ s. chip.dataWrite s vram map x) (dataWritten x c) 0 refl (λ ok. eight) (lit< tt))
-        (list-same ready (chip.dataWriteRefusal c vram map) write-refusal (λ s. chip.dataWriteVram s vram map x) (stored x c vram) vram refl)
-        (list-same ready (chip.dataWriteRefusal c vram map) write-refusal (λ s. chip.dataWriteMap s vram map) (marked map (c .address)) map refl)
+        same-step (through-same ready _ write-refusal _ (dataWritten x c) 0 refl (λ ok. eight) (lit< tt))
+        (list-same ready _ write-refusal (λ s. chip.dataWriteVram s vram map x) _ _ refl)
+        (list-same ready _ write-refusal (λ s. chip.dataWriteMap s vram map) _ _ refl)
         refl refl refl
     by-op readData =
-        same-step (through-same ready (refusalOf (vramTest vram ∷ stateTest c ∷ [])) vram-refusal (λ s. chip.readData s vram) (dataRead vram c) (c .buffer) refl (λ ok. eight) (ready .fits .buffer))
+        same-step (through-same ready _ vram-refusal _ (dataRead vram c) (c .buffer) refl (λ ok. eight) (ready .fits .buffer))
         refl refl refl refl refl
     by-op readStatus =
-        same-step (through-same ready (refusalOf (stateTest c ∷ [])) state-refusal chip.readStatus (statusRead c) (c .status) refl (λ ok. eight) (ready .fits .status))
+        same-step (through-same ready _ state-refusal _ (statusRead c) (c .status) refl (λ ok. eight) (ready .fits .status))
         refl refl refl refl refl
     by-op endOfDisplay =
-        same-step (through-same ready (refusalOf (stateTest c ∷ [])) state-refusal chip.endOfDisplay (displayEnded c) 0 refl (λ ok. eight) (lit< tt)) refl refl refl refl refl
+        same-step (through-same ready _ state-refusal _ (displayEnded c) 0 refl (λ ok. eight) (lit< tt)) refl refl refl refl refl
     by-op interruptLine =
-        same-step (through-same ready (refusalOf (stateTest c ∷ [])) state-refusal chip.interruptLine c (boolByte (interruptOn c)) refl (λ ok. eight) line-small) refl refl refl refl refl
+        same-step (through-same ready _ state-refusal _ c (boolByte (interruptOn c)) refl (λ ok. eight) line-small) refl refl refl refl refl
     by-op reset =
-        same-step (through-same ready (refusalOf (stateTest c ∷ [])) state-refusal chip.reset (wasReset c) 0 refl (λ ok. length-set (set r 0 0) 1 0 ∙ length-set r 0 0 ∙ eight) (lit< tt)) refl refl refl refl refl
+        same-step (through-same ready _ state-refusal _ (wasReset c) 0 refl (λ ok. length-set (set r 0 0) 1 0 ∙ length-set r 0 0 ∙ eight) (lit< tt)) refl refl refl refl refl
     by-op (drawLine line l) =
-        same-step (through-same ready (scanline.drawLineRefusal c vram line l) (line-refusal line l) (λ s. scanline.drawLine s vram line l) (withStatus (statusAfter (c .status) (scanline.noteAt r vram l)) c) 0 refl (λ ok. eight) (lit< tt))
+        same-step (through-same ready _ (line-refusal line l) _ (withStatus (statusAfter (c .status) (scanline.noteAt r vram l)) c) 0 refl (λ ok. eight) (lit< tt))
         refl refl refl refl
-        (list-same ready (scanline.drawLineRefusal c vram line l) (line-refusal line l) (λ s. scanline.drawLineLine s vram line l) (scanline.colours r vram l) line refl)
+        (list-same ready _ (line-refusal line l) (λ s. scanline.drawLineLine s vram line l) _ _ refl)
     by-op fullDraw =
-        same-step (through-same ready (frame.drawRefusal c vram map frame-lent notes) draw-refusal (λ s. frame.fullDraw s vram map frame-lent notes) (drawnState c (notesOf r vram)) 0 refl (λ ok. eight) (lit< tt))
+        same-step (through-same ready _ draw-refusal _ (drawnState c (notesOf r vram)) 0 refl (λ ok. eight) (lit< tt))
         refl
-        (list-same ready (frame.drawRefusal c vram map frame-lent notes) draw-refusal (λ s. frame.drawMap s vram map frame-lent notes) clearMap map refl)
-        (list-same ready (frame.drawRefusal c vram map frame-lent notes) draw-refusal (λ s. frame.fullDrawFrame s vram map frame-lent notes) (frameOf r vram) frame-lent refl)
-        (list-same ready (frame.drawRefusal c vram map frame-lent notes) draw-refusal (λ s. frame.fullDrawNotes s vram map frame-lent notes) (notesOf r vram) notes refl)
+        (list-same ready _ draw-refusal (λ s. frame.drawMap s vram map frame-lent notes) _ _ refl)
+        (list-same ready _ draw-refusal (λ s. frame.fullDrawFrame s vram map frame-lent notes) _ _ refl)
+        (list-same ready _ draw-refusal (λ s. frame.fullDrawNotes s vram map frame-lent notes) _ _ refl)
         refl
     by-op refresh =
         let n : List ℕ = newNotes (c .redraw) r vram map notes in
-        same-step (through-same ready (frame.drawRefusal c vram map frame-lent notes) draw-refusal (λ s. frame.refresh s vram map frame-lent notes) (drawnState c n) (dueCount (c .redraw) r vram map) refl (λ ok. eight) count-small)
+        same-step (through-same ready _ draw-refusal _ (drawnState c n) (dueCount (c .redraw) r vram map) refl (λ ok. eight) count-small)
         refl
-        (list-same ready (frame.drawRefusal c vram map frame-lent notes) draw-refusal (λ s. frame.drawMap s vram map frame-lent notes) clearMap map refl)
-        (list-same ready (frame.drawRefusal c vram map frame-lent notes) draw-refusal (λ s. frame.refreshFrame s vram map frame-lent notes) (newFrame (c .redraw) r vram map frame-lent) frame-lent refl)
-        (list-same ready (frame.drawRefusal c vram map frame-lent notes) draw-refusal (λ s. frame.refreshNotes s vram map frame-lent notes) n notes refl)
+        (list-same ready _ draw-refusal (λ s. frame.drawMap s vram map frame-lent notes) _ _ refl)
+        (list-same ready _ draw-refusal (λ s. frame.refreshFrame s vram map frame-lent notes) _ _ refl)
+        (list-same ready _ draw-refusal (λ s. frame.refreshNotes s vram map frame-lent notes) _ _ refl)
         refl
     by-op (readSnapshot s) =
-        same-step (through-same ready (snapshot.readRefusal vram s) (read-refusal s) (λ k. snapshot.readSnapshot k vram s) (decoded (stateBytes s) true) 0 refl (read-eight s) (lit< tt))
-        (list-same ready (snapshot.readRefusal vram s) (read-refusal s) (λ k. snapshot.readVram vram s) (vramBytes s) vram refl) refl refl refl refl
+        same-step (through-same ready _ (read-refusal s) _ (decoded (stateBytes s) true) 0 refl (read-eight s) (lit< tt))
+        (list-same ready _ (read-refusal s) (λ k. snapshot.readVram vram s) _ _ refl) refl refl refl refl
     by-op (writeSnapshot s) =
-        same-step (through-same ready (snapshot.writeRefusal c vram s) (save-refusal s) (λ k. snapshot.writeSnapshot k vram s) c 0 refl (λ ok. eight) (lit< tt))
+        same-step (through-same ready _ (save-refusal s) _ c 0 refl (λ ok. eight) (lit< tt))
         refl refl refl refl
-        (list-same ready (snapshot.writeRefusal c vram s) (save-refusal s) (λ k. snapshot.written k vram s) (snapshotOf c vram) s refl)
+        (list-same ready _ (save-refusal s) (λ k. snapshot.written k vram s) _ _ refl)

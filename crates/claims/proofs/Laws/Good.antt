@@ -1,10 +1,10 @@
 -- The invariant of demand 3, and that each effect a call can have keeps it.
 use Prim.Native.Nat.{ℕ, _/_, _≤_, _<_}
 use native.Mathlib.Omega.{arith}
-use mathlib.Core.Path.{_≡_, refl, ap, ap₂, sym, _∙_}
+use mathlib.Core.Path.{_≡_, _∙_}
 use mathlib.Core.Bool.{Bool, true, false}
 use mathlib.Core.List.{List}
-use lib.ListN.{length, getD, set, length-set, length-replicate}
+use lib.ListN.{length, length-set, length-replicate}
 use Rattle.chip.specs.State.{Bytes}
 use Rattle.chip.specs.Map.{mapSize, marked}
 use Rattle.chip.specs.Ports.{dataWritten, stored}

@@ -1,10 +1,9 @@
 -- A step keeps the invariant, and so does every list of calls.
-use mathlib.Core.Path.{_≡_, subst⁻¹}
+use mathlib.Core.Path.{subst⁻¹}
 use mathlib.Core.List.{List, [], _∷_}
 use Rattle.claims.specs.Bench.{Bench}
 use Rattle.claims.specs.Call.{OpBytes, CallsBytes, own, other, Caller, direct, fromC, Call}
 use Rattle.claims.specs.Step.{Step, stepBy, step, run}
-use Rattle.claims.proofs.Laws.States.{Ready}
 use Rattle.claims.proofs.Laws.Good.{Good}
 use Rattle.claims.proofs.Laws.Direct.{direct-keeps}
 use Rattle.claims.proofs.Laws.FromC.{by-op}

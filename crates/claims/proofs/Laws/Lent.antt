@@ -10,7 +10,6 @@ use Rattle.chip.specs.State.{vramSize}
 use Rattle.chip.specs.Map.{mapSize}
 use Rattle.chip.specs.declared.state.Chip.{Chip}
 use Rattle.frame.specs.Lines.{frameSize, notesSize}
-use Rattle.claims.specs.Bench.{Bench}
 use Rattle.claims.specs.Call.{Lent, own, other}
 use Rattle.claims.specs.Step.{lent, back}
 use Rattle.claims.proofs.Laws.Good.{bench, Good}

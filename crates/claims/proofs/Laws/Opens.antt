@@ -1,7 +1,7 @@
 -- After power-up, a snapshot read or a full draw that is accepted the bench has the invariant, whatever state it was in.
 use Prim.Native.Nat.{ℕ}
 use mathlib.Core.Path.{_≡_, refl, subst⁻¹, _∙_}
-use mathlib.Core.Bool.{Bool, true, cond}
+use mathlib.Core.Bool.{true, cond}
 use mathlib.Core.List.{List, [], _∷_}
 use lib.Dec.{eqb}
 use lib.ListN.{length, length-replicate}
@@ -23,7 +23,7 @@ use Rattle.birdcleft.specs.Calls.{through}
 use Rattle.claims.specs.Bench.{Bench, Lengths, Typed}
 use Rattle.claims.specs.Call.{Op, powerUp, controlWrite, dataWrite, dataRead, statusRead, endOfDisplay, interruptLine, reset, drawLine, fullDraw, refresh, readSnapshot, writeSnapshot, own, other, Caller, direct, fromC, Call}
 use Rattle.claims.specs.Refusals.{Opens}
-use Rattle.claims.specs.Step.{lent, back, lentBench, stepBy, step}
+use Rattle.claims.specs.Step.{lent, back, stepBy, step}
 use Rattle.claims.proofs.Laws.States.{Ready, zeros, ready-power-up}
 use Rattle.claims.proofs.Laws.Good.{bench, Good}
 use Rattle.claims.proofs.Laws.Direct.{good-replaced, vram-bytes, ready-held}

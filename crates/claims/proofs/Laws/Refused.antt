@@ -1,22 +1,13 @@
 -- A refused call leaves the bench as it was.
 use Prim.Native.Nat.{ℕ}
 use mathlib.Core.Path.{_≡_, refl, _∙_}
-use mathlib.Core.Bool.{Bool, true, false, cond}
+use mathlib.Core.Bool.{Bool, false, cond}
 use mathlib.Core.List.{List}
-use Rattle.chip.specs.State.{powerUpState, withStatus}
-use Rattle.chip.specs.Map.{marked}
-use Rattle.chip.specs.Ports.{control, dataWritten, stored, dataRead, statusRead, displayEnded, wasReset, clearedVram}
-use Rattle.chip.specs.Layout.{decoded}
 use Rattle.chip.specs.Refusals.{isAccepted}
 use Rattle.chip.specs.declared.state.Chip.{Chip}
-use Rattle.scanline.specs.Notes.{statusAfter}
-use Rattle.scanline.specs.Calls.{noteAt}
-use Rattle.frame.specs.Draw.{frameOf, notesOf, clearMap, drawnState}
-use Rattle.frame.specs.Due.{newFrame, newNotes}
-use Rattle.snapshot.specs.Tests.{stateBytes, vramBytes}
 use Rattle.claims.specs.Bench.{Bench}
-use Rattle.claims.specs.Call.{Op, powerUp, controlWrite, dataWrite, dataRead as readData, statusRead as readStatus, endOfDisplay, interruptLine, reset, drawLine, fullDraw, refresh, readSnapshot, writeSnapshot, Lent, Call}
-use Rattle.claims.specs.Step.{Left, lent, back, lentBench, benchBack, directly}
+use Rattle.claims.specs.Call.{Op, powerUp, controlWrite, dataWrite, dataRead, statusRead, endOfDisplay, interruptLine, reset, drawLine, fullDraw, refresh, readSnapshot, writeSnapshot, Call}
+use Rattle.claims.specs.Step.{lent, back, lentBench, benchBack, directly}
 use Rattle.claims.proofs.Laws.Good.{bench}
 use Rattle.claims.proofs.Laws.Lent.{back-same}
 
@@ -33,37 +24,17 @@ module _ (b : Bench) (call : Call) where
       (λ i. bench (ed i) (back (call .vram) (ev i) (b .vram)) (back (call .map) (em i) (b .map)) (back (call .frame) (ef i) (b .frame)) (back (call .notes) (en i) (b .notes)))
       ∙ (λ i. bench (b .chip) (back-same (call .vram) (b .vram) i) (back-same (call .map) (b .map) i) (back-same (call .frame) (b .frame) i) (back-same (call .notes) (b .notes) i))
 
-  abbrev c : Chip
-  c = b .chip
-
-  abbrev r : List ℕ
-  r = c .registers
-
-  abbrev vram : List ℕ
-  vram = lent (call .vram) (b .vram)
-
-  abbrev map : List ℕ
-  map = lent (call .map) (b .map)
-
-  abbrev frame : List ℕ
-  frame = lent (call .frame) (b .frame)
-
-  abbrev notes : List ℕ
-  notes = lent (call .notes) (b .notes)
-
   pub direct-refused : (op : Op) → let left = directly op (lentBench call b) in isAccepted (left .answer .refusal) ≡ false → benchBack call b (left .answer .chip) left ≡ b
-  direct-refused powerUp e = unmoved (the-old powerUpState e) (the-old clearedVram e) refl refl refl
-  direct-refused (controlWrite x) e = unmoved (the-old (control x vram c) e) refl refl refl refl
-  direct-refused (dataWrite x) e = unmoved (the-old (dataWritten x c) e) (the-old (stored x c vram) e) (the-old (marked map (c .address)) e) refl refl
-  direct-refused readData e = unmoved (the-old (dataRead vram c) e) refl refl refl refl
-  direct-refused readStatus e = unmoved (the-old (statusRead c) e) refl refl refl refl
-  direct-refused endOfDisplay e = unmoved (the-old (displayEnded c) e) refl refl refl refl
-  direct-refused interruptLine e = unmoved (the-old c e) refl refl refl refl
-  direct-refused reset e = unmoved (the-old (wasReset c) e) refl refl refl refl
-  direct-refused (drawLine line l) e = unmoved (the-old (withStatus (statusAfter (c .status) (noteAt r vram l)) c) e) refl refl refl refl
-  direct-refused fullDraw e = unmoved (the-old (drawnState c (notesOf r vram)) e) refl (the-old clearMap e) (the-old (frameOf r vram) e) (the-old (notesOf r vram) e)
-  direct-refused refresh e =
-      let n : List ℕ = newNotes (c .redraw) r vram map notes in
-      unmoved (the-old (drawnState c n) e) refl (the-old clearMap e) (the-old (newFrame (c .redraw) r vram map frame) e) (the-old n e)
-  direct-refused (readSnapshot s) e = unmoved (the-old (decoded (stateBytes s) true) e) (the-old (vramBytes s) e) refl refl refl
-  direct-refused (writeSnapshot s) e = unmoved (the-old c e) refl refl refl refl
+  direct-refused powerUp e = unmoved (the-old _ e) (the-old _ e) refl refl refl
+  direct-refused (controlWrite x) e = unmoved (the-old _ e) refl refl refl refl
+  direct-refused (dataWrite x) e = unmoved (the-old _ e) (the-old _ e) (the-old _ e) refl refl
+  direct-refused dataRead e = unmoved (the-old _ e) refl refl refl refl
+  direct-refused statusRead e = unmoved (the-old _ e) refl refl refl refl
+  direct-refused endOfDisplay e = unmoved (the-old _ e) refl refl refl refl
+  direct-refused interruptLine e = unmoved (the-old _ e) refl refl refl refl
+  direct-refused reset e = unmoved (the-old _ e) refl refl refl refl
+  direct-refused (drawLine line l) e = unmoved (the-old _ e) refl refl refl refl
+  direct-refused fullDraw e = unmoved (the-old _ e) refl (the-old _ e) (the-old _ e) (the-old _ e)
+  direct-refused refresh e = unmoved (the-old _ e) refl (the-old _ e) (the-old _ e) (the-old _ e)
+  direct-refused (readSnapshot s) e = unmoved (the-old _ e) (the-old _ e) refl refl refl
+  direct-refused (writeSnapshot s) e = unmoved (the-old _ e) refl refl refl refl

@@ -1,24 +1,24 @@
 -- States that are well-formed and whose values fit their types: each operation hands back such a state.
-use Prim.Native.Nat.{ℕ, zero, suc, _+_, _*_, _/_, _%_, _^_, _≤_, _<_}
+use Prim.Native.Nat.{ℕ, zero, suc, _+_, _*_, _/_, _%_, _≤_, _<_}
 use native.Mathlib.Omega.{arith}
-use mathlib.Core.Path.{_≡_, refl, sym, ap, _∙_}
+use mathlib.Core.Path.{_≡_, refl, _∙_}
 use mathlib.Core.Bool.{Bool, true, false, cond, not, _&&_}
 use mathlib.Core.List.{List, [], _∷_}
-use lib.Bits.{bitOr, or-lt}
+use lib.Bits.{or-lt}
 use lib.Dec.{eqb, ltb, leb, lit<}
 use lib.ListN.{length, getD, set, replicate, length-set}
 use lib.Seq.{length-take-le}
 use borrow.Author.Tests.{ltb-true, le-leb}
 use Rattle.chip.specs.Bits.{bit, setBit}
 use Rattle.chip.specs.State.{Bytes, Fits, byteOf, waitingOf, kept, masked, wellFormed, powerUpState, withRegisters, withAddress, withBuffer, withWaiting, withStatus, withRedraw}
-use Rattle.chip.specs.Ports.{stepped, prefetched, registerWritten, pairDone, controlBy, control, dataWritten, dataRead, statusRead, displayEnded, wasReset}
+use Rattle.chip.specs.Ports.{stepped, prefetched, registerWritten, controlBy, control, dataWritten, dataRead, statusRead, displayEnded, wasReset}
 use Rattle.chip.specs.Layout.{decoded, holdsState}
 use Rattle.chip.specs.declared.state.Chip.{Chip}
 use Rattle.chip.specs.declared.state.Waiting.{Waiting}
 use Rattle.chip.specs.declared.state.Waiting.the-variants.{Nothing, First}
 use Rattle.chip.proofs.Laws.Ranges.{and-both}
 use Rattle.chip.proofs.Laws.State.{address-in, masked-in}
-use Rattle.scanline.specs.Notes.{latched, withFifth, withCoincidence, statusAfter}
+use Rattle.scanline.specs.Notes.{withFifth, statusAfter}
 use Rattle.frame.specs.Draw.{statusThrough, drawnState}
 use Rattle.snapshot.proofs.Laws.Accepted.{state-of}
 use Rattle.snapshot.proofs.Laws.Bytes.{bytes-part}

@@ -1,6 +1,6 @@
 -- Tests that pass decide nothing, wherever they stand.
 use mathlib.Core.Path.{_≡_, refl, ap, ap₂, _∙_}
-use mathlib.Core.Bool.{Bool, true, cond, not, _&&_, _||_}
+use mathlib.Core.Bool.{Bool, cond, not, _&&_, _||_}
 use mathlib.Core.List.{List, [], _∷_, _++_}
 use lib.Dec.{eqb}
 use Rattle.chip.specs.Refusals.{numberOf, order, Test, gives, firstOf, refusalOf}

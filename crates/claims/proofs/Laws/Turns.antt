@@ -8,7 +8,7 @@ use lib.ListN.{set}
 use lib.Seq.{set-getD}
 use borrow.Author.Tests.{eqb-true}
 use Rattle.chip.specs.State.{kept, register, withAddress, withWaiting}
-use Rattle.chip.specs.Ports.{prefetched, registerWritten, controlBy, control}
+use Rattle.chip.specs.Ports.{registerWritten, controlBy, control}
 use Rattle.chip.specs.declared.state.Chip.{Chip}
 use Rattle.chip.specs.declared.state.Waiting.{Waiting}
 use Rattle.chip.specs.declared.state.Waiting.the-variants.{Nothing, First}

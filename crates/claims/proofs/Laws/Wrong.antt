@@ -1,7 +1,7 @@
 -- From C with a block of the wrong length every call is refused, and leaves the bench as it was.
 use Prim.Native.Nat.{ℕ, _*_, _/_}
 use native.Mathlib.Omega.{arith}
-use mathlib.Core.Path.{_≡_, refl, sym, ap, _∙_}
+use mathlib.Core.Path.{_≡_, refl}
 use mathlib.Core.Bool.{Bool, true, false, cond}
 use mathlib.Core.List.{List, [], _∷_}
 use lib.Dec.{eqb}
@@ -10,14 +10,12 @@ use borrow.Author.Tests.{eqb-true, eqb-false}
 use Rattle.chip.specs.Map.{mapSize}
 use Rattle.chip.specs.Layout.{blockSize, chipOf, blockTest, blockTests}
 use Rattle.chip.specs.Refusals.{Test, numberOf, isAccepted, refusalOf, resultOf, vramTest, sliceTest, lineTest}
-use Rattle.chip.specs.Calls as chip
 use Rattle.chip.specs.declared.state.Chip.{Chip}
 use Rattle.chip.specs.declared.refusal.Answer.{Answer}
 use Rattle.chip.specs.declared.refusal.Refusal.{Refusal}
 use Rattle.chip.proofs.Laws.Refusals.{AllPass, AllRefuse, all-pass}
 use Rattle.scanline.specs.Calls as scanline
 use Rattle.frame.specs.Lines.{frameSize, notesSize}
-use Rattle.frame.specs.Calls as frame
 use Rattle.snapshot.specs.Tests.{sizeTest}
 use Rattle.snapshot.specs.Calls as snapshot
 use Rattle.birdcleft.specs.Calls.{through}
@@ -81,42 +79,31 @@ module _ (b : Bench) (call : Call) (k : List ℕ) (wrong : length k ≡ 15 → �
   refused (writeSnapshot s) = not-accepted (tests (writeSnapshot s)) (refl, (refl, (refl, (refl, tt)))) (λ p. bad (p .1 .1 .0))
 
   pub wrong-refused : (op : Op) → stepFromC (other k wrong) call b (throughC op k lends) .reply .refusal ≡ 0 → ⊥
-  wrong-refused powerUp = refused-number (refusalOf (tests powerUp)) k (λ c. chip.powerUp c (lends .vram)) (refused powerUp)
-  wrong-refused (controlWrite x) = refused-number (refusalOf (tests (controlWrite x))) k (λ c. chip.controlWrite c (lends .vram) x) (refused (controlWrite x))
-  wrong-refused (dataWrite x) = refused-number (refusalOf (tests (dataWrite x))) k (λ c. chip.dataWrite c (lends .vram) (lends .map) x) (refused (dataWrite x))
-  wrong-refused dataRead = refused-number (refusalOf (tests dataRead)) k (λ c. chip.readData c (lends .vram)) (refused dataRead)
-  wrong-refused statusRead = refused-number (refusalOf (tests statusRead)) k chip.readStatus (refused statusRead)
-  wrong-refused endOfDisplay = refused-number (refusalOf (tests endOfDisplay)) k chip.endOfDisplay (refused endOfDisplay)
-  wrong-refused interruptLine = refused-number (refusalOf (tests interruptLine)) k chip.interruptLine (refused interruptLine)
-  wrong-refused reset = refused-number (refusalOf (tests reset)) k chip.reset (refused reset)
-  wrong-refused (drawLine line l) = refused-number (refusalOf (tests (drawLine line l))) k (λ c. scanline.drawLine c (lends .vram) line l) (refused (drawLine line l))
-  wrong-refused fullDraw = refused-number (refusalOf (tests fullDraw)) k (λ c. frame.fullDraw c (lends .vram) (lends .map) (lends .frame) (lends .notes)) (refused fullDraw)
-  wrong-refused refresh = refused-number (refusalOf (tests refresh)) k (λ c. frame.refresh c (lends .vram) (lends .map) (lends .frame) (lends .notes)) (refused refresh)
-  wrong-refused (readSnapshot s) = refused-number (refusalOf (tests (readSnapshot s))) k (λ c. snapshot.readSnapshot c (lends .vram) s) (refused (readSnapshot s))
-  wrong-refused (writeSnapshot s) = refused-number (refusalOf (tests (writeSnapshot s))) k (λ c. snapshot.writeSnapshot c (lends .vram) s) (refused (writeSnapshot s))
+  wrong-refused powerUp = refused-number _ k _ (refused powerUp)
+  wrong-refused (controlWrite x) = refused-number _ k _ (refused (controlWrite x))
+  wrong-refused (dataWrite x) = refused-number _ k _ (refused (dataWrite x))
+  wrong-refused dataRead = refused-number _ k _ (refused dataRead)
+  wrong-refused statusRead = refused-number _ k _ (refused statusRead)
+  wrong-refused endOfDisplay = refused-number _ k _ (refused endOfDisplay)
+  wrong-refused interruptLine = refused-number _ k _ (refused interruptLine)
+  wrong-refused reset = refused-number _ k _ (refused reset)
+  wrong-refused (drawLine line l) = refused-number _ k _ (refused (drawLine line l))
+  wrong-refused fullDraw = refused-number _ k _ (refused fullDraw)
+  wrong-refused refresh = refused-number _ k _ (refused refresh)
+  wrong-refused (readSnapshot s) = refused-number _ k _ (refused (readSnapshot s))
+  wrong-refused (writeSnapshot s) = refused-number _ k _ (refused (writeSnapshot s))
 
   pub wrong-leaves : (op : Op) → stepFromC (other k wrong) call b (throughC op k lends) .bench ≡ b
-  wrong-leaves powerUp = unmoved b call refl (the-old (chip.powerUpVram (lends .vram)) (refused powerUp)) refl refl refl
+  wrong-leaves powerUp = unmoved b call refl (the-old _ (refused powerUp)) refl refl refl
   wrong-leaves (controlWrite x) = unmoved b call refl refl refl refl refl
-  wrong-leaves (dataWrite x) =
-      unmoved b call refl
-      (the-old (chip.dataWriteVram (chipOf k) (lends .vram) (lends .map) x) (refused (dataWrite x)))
-      (the-old (chip.dataWriteMap (chipOf k) (lends .vram) (lends .map)) (refused (dataWrite x))) refl refl
+  wrong-leaves (dataWrite x) = unmoved b call refl (the-old _ (refused (dataWrite x))) (the-old _ (refused (dataWrite x))) refl refl
   wrong-leaves dataRead = unmoved b call refl refl refl refl refl
   wrong-leaves statusRead = unmoved b call refl refl refl refl refl
   wrong-leaves endOfDisplay = unmoved b call refl refl refl refl refl
   wrong-leaves interruptLine = unmoved b call refl refl refl refl refl
   wrong-leaves reset = unmoved b call refl refl refl refl refl
   wrong-leaves (drawLine line l) = unmoved b call refl refl refl refl refl
-  wrong-leaves fullDraw =
-      unmoved b call refl refl
-      (the-old (frame.drawMap (chipOf k) (lends .vram) (lends .map) (lends .frame) (lends .notes)) (refused fullDraw))
-      (the-old (frame.fullDrawFrame (chipOf k) (lends .vram) (lends .map) (lends .frame) (lends .notes)) (refused fullDraw))
-      (the-old (frame.fullDrawNotes (chipOf k) (lends .vram) (lends .map) (lends .frame) (lends .notes)) (refused fullDraw))
-  wrong-leaves refresh =
-      unmoved b call refl refl
-      (the-old (frame.drawMap (chipOf k) (lends .vram) (lends .map) (lends .frame) (lends .notes)) (refused refresh))
-      (the-old (frame.refreshFrame (chipOf k) (lends .vram) (lends .map) (lends .frame) (lends .notes)) (refused refresh))
-      (the-old (frame.refreshNotes (chipOf k) (lends .vram) (lends .map) (lends .frame) (lends .notes)) (refused refresh))
-  wrong-leaves (readSnapshot s) = unmoved b call refl (the-old (snapshot.readVram (lends .vram) s) (refused (readSnapshot s))) refl refl refl
+  wrong-leaves fullDraw = unmoved b call refl refl (the-old _ (refused fullDraw)) (the-old _ (refused fullDraw)) (the-old _ (refused fullDraw))
+  wrong-leaves refresh = unmoved b call refl refl (the-old _ (refused refresh)) (the-old _ (refused refresh)) (the-old _ (refused refresh))
+  wrong-leaves (readSnapshot s) = unmoved b call refl (the-old _ (refused (readSnapshot s))) refl refl refl
   wrong-leaves (writeSnapshot s) = unmoved b call refl refl refl refl refl
