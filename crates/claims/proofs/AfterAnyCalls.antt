@@ -72,8 +72,7 @@ unfolding step
 after-any-calls start lengths typed first o accepted calls bytes =
     let good = run-keeps (opens start first lengths typed o accepted) calls bytes in
     let b = run (step start first .bench) calls in
-    let answers : (op : Op) → step b (whole op direct) .reply .refusal ≡ numberOf (refusalOf (ownTests op)) = λ op. ap numberOf (own-decides b (good .ready) (good .lengths) op) in
-    (
+    let answers : (op : Op) → step b (whole op direct) .reply .refusal ≡ numberOf (refusalOf (ownTests op)) = λ op. ap numberOf (own-decides b (good .ready) (good .lengths) op) in (
       good .ready .well-formed,
       record { chip = good .ready .fits; vram = good .bytes },
       good .lengths,

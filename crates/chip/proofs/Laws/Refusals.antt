@@ -83,9 +83,10 @@ nothing-given ts e =
 
 passes-all : (ts : List Test) → AllRefuse ts → ((r : Refusal) → isAccepted r ≡ false → gives ts r ≡ false) → AllPass ts
 passes-all [] n h = tt
-passes-all (t ∷ ts) n h =
-    (own (t .passes) (gives ts (t .refusal)) (eqb (numberOf (t .refusal)) (numberOf (t .refusal))) (eq-eqb (numberOf (t .refusal)) (numberOf (t .refusal)) refl) (h (t .refusal) (n .0)),
-    passes-all ts (n .1) (λ r m. neither (eqb (numberOf (t .refusal)) (numberOf r) && not (t .passes)) (gives ts r) (h r m) .1))
+passes-all (t ∷ ts) n h = (
+  own (t .passes) (gives ts (t .refusal)) (eqb (numberOf (t .refusal)) (numberOf (t .refusal))) (eq-eqb (numberOf (t .refusal)) (numberOf (t .refusal)) refl) (h (t .refusal) (n .0)),
+  passes-all ts (n .1) (λ r m. neither (eqb (numberOf (t .refusal)) (numberOf r) && not (t .passes)) (gives ts r) (h r m) .1),
+)
   where
     own : (p rest same : Bool) → same ≡ true → (same && not p || rest) ≡ false → p ≡ true
     own true rest same s e = refl

@@ -103,11 +103,11 @@ module _ {b : Bench} (good : Good b) (call : Call) where
       settle (λ a. Good (after (cond a (dataWritten x c) c) (cond a (stored x c vram) vram) (cond a (marked map (c .address)) map) (lent f (b .frame)) (lent n (b .notes)))) (isAccepted (refusalOf ts))
       (good-back v m f n good)
       (λ ok. let p = all-pass ts (refl, (refl, (refl, tt))) ok in
-        good-same (dataWritten x c)
-        (back-own v (b .vram) (stored x c vram) (p .0) ∙ ap (stored x c) (lent-own v (b .vram) (p .0)))
-        (back-own m (b .map) (marked map (c .address)) (p .1 .0) ∙ ap (λ (l : List ℕ). marked l (c .address)) (lent-own m (b .map) (p .1 .0)))
-        (back-same f (b .frame)) (back-same n (b .notes))
-        (good-written good x h))
+      good-same (dataWritten x c)
+      (back-own v (b .vram) (stored x c vram) (p .0) ∙ ap (stored x c) (lent-own v (b .vram) (p .0)))
+      (back-own m (b .map) (marked map (c .address)) (p .1 .0) ∙ ap (λ (l : List ℕ). marked l (c .address)) (lent-own m (b .map) (p .1 .0)))
+      (back-same f (b .frame)) (back-same n (b .notes))
+      (good-written good x h))
 
   read-keeps : (s : List ℕ) → Bytes s → let ts = readTests vram s in Good (after (ifAccepted (refusalOf ts) (decoded (stateBytes s) true) c) (ifAccepted (refusalOf ts) (vramBytes s) vram) (lent m (b .map)) (lent f (b .frame)) (lent n (b .notes)))
   read-keeps s bytes =
