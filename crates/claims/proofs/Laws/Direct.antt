@@ -7,14 +7,13 @@ use mathlib.Core.List.{List, [], _∷_}
 use lib.Dec.{eqb}
 use lib.ListN.{length, length-replicate}
 use borrow.Author.Tests.{eqb-true}
-use Rattle.chip.specs.State.{Bytes, vramSize, powerUpState, withStatus}
+use Rattle.chip.specs.State.{Bytes, vramSize}
 use Rattle.chip.specs.Map.{mapSize, marked}
-use Rattle.chip.specs.Ports.{control, dataWritten, stored, dataRead, statusRead, displayEnded, wasReset, clearedVram}
+use Rattle.chip.specs.Ports.{dataWritten, stored}
 use Rattle.chip.specs.Refusals.{Test, isAccepted, refusalOf, ifAccepted, vramTest, sliceTest, stateTest, lineTest}
 use Rattle.chip.specs.Layout.{decoded, holdsState}
 use Rattle.chip.specs.declared.state.Chip.{Chip}
 use Rattle.chip.proofs.Laws.Refusals.{AllPass, AllRefuse, all-pass}
-use Rattle.scanline.specs.Notes.{statusAfter}
 use Rattle.frame.specs.Lines.{frameSize, notesSize}
 use Rattle.claims.specs.Bench.{Bench, Lengths}
 use Rattle.claims.specs.Call.{Op, powerUp, controlWrite, dataWrite, dataRead as readData, statusRead as readStatus, endOfDisplay, interruptLine, reset, drawLine, fullDraw, refresh, readSnapshot, writeSnapshot, OpBytes, Lent, Call}
@@ -111,7 +110,7 @@ module _ {b : Bench} (good : Good b) (call : Call) where
 
   read-keeps : (s : List ℕ) → Bytes s → let ts = readTests vram s in Good (after (ifAccepted (refusalOf ts) (decoded (stateBytes s) true) c) (ifAccepted (refusalOf ts) (vramBytes s) vram) (lent m (b .map)) (lent f (b .frame)) (lent n (b .notes)))
   read-keeps s bytes =
-      replaced (readTests vram s) (refl, (refl, (refl, (refl, (refl, tt))))) (decoded (stateBytes s) true) (vramBytes s) (λ p. p .0) refl
+      replaced (readTests vram s) (refl, (refl, (refl, (refl, (refl, tt))))) _ _ (λ p. p .0) refl
       (λ p. ready-held s bytes (eqb-true _ _ (p .1 .0)) (p .1 .1 .1 .1 .0))
       (λ p. length-vram s (eqb-true _ _ (p .1 .0)))
       (λ p. vram-bytes s bytes)
@@ -129,20 +128,20 @@ module _ {b : Bench} (good : Good b) (call : Call) where
 
   pub direct-keeps : (op : Op) → OpBytes op → Good (afterwards op)
   direct-keeps powerUp h =
-      replaced (vramTest vram ∷ []) (refl, tt) powerUpState clearedVram (λ p. p .0) refl (λ p. ready-power-up) (λ p. length-replicate {A = ℕ} vramSize 0) (λ p. zeros vramSize)
+      replaced (vramTest vram ∷ []) (refl, tt) _ _ (λ p. p .0) refl (λ p. ready-power-up) (λ p. length-replicate {A = ℕ} vramSize 0) (λ p. zeros vramSize)
   direct-keeps (controlWrite x) h =
-      state-only (vramTest vram ∷ stateTest c ∷ []) (refl, (refl, tt)) (control x vram c) (λ p. (ready-control (good .ready) vram (bytes (p .0)) x h, control-turned x vram c))
+      state-only (vramTest vram ∷ stateTest c ∷ []) (refl, (refl, tt)) _ (λ p. (ready-control (good .ready) vram (bytes (p .0)) x h, control-turned x vram c))
   direct-keeps (dataWrite x) h = written-keeps x h
-  direct-keeps readData h = state-only (vramTest vram ∷ stateTest c ∷ []) (refl, (refl, tt)) (dataRead vram c) (λ p. (ready-read (good .ready) vram (bytes (p .0)), quiet refl refl))
-  direct-keeps readStatus h = state-only (stateTest c ∷ []) (refl, tt) (statusRead c) (λ p. (ready-status-read (good .ready), quiet refl refl))
-  direct-keeps endOfDisplay h = state-only (stateTest c ∷ []) (refl, tt) (displayEnded c) (λ p. (ready-ended (good .ready), quiet refl refl))
-  direct-keeps interruptLine h = state-only (stateTest c ∷ []) (refl, tt) c (λ p. (good .ready, quiet refl refl))
-  direct-keeps reset h = state-only (stateTest c ∷ []) (refl, tt) (wasReset c) (λ p. (ready-reset (good .ready), marks refl))
+  direct-keeps readData h = state-only (vramTest vram ∷ stateTest c ∷ []) (refl, (refl, tt)) _ (λ p. (ready-read (good .ready) vram (bytes (p .0)), quiet refl refl))
+  direct-keeps readStatus h = state-only (stateTest c ∷ []) (refl, tt) _ (λ p. (ready-status-read (good .ready), quiet refl refl))
+  direct-keeps endOfDisplay h = state-only (stateTest c ∷ []) (refl, tt) _ (λ p. (ready-ended (good .ready), quiet refl refl))
+  direct-keeps interruptLine h = state-only (stateTest c ∷ []) (refl, tt) _ (λ p. (good .ready, quiet refl refl))
+  direct-keeps reset h = state-only (stateTest c ∷ []) (refl, tt) _ (λ p. (ready-reset (good .ready), marks refl))
   direct-keeps (drawLine line l) h =
       state-only (vramTest vram ∷ sliceTest lineSize line ∷ stateTest c ∷ lineTest l ∷ []) (refl, (refl, (refl, (refl, tt))))
-      (withStatus (statusAfter (c .status) (noteAt (c .registers) vram l)) c)
+      _
       (λ p. (ready-line (good .ready) (noteAt (c .registers) vram l), quiet refl refl))
   direct-keeps fullDraw h = drew fullDraw (full-drawn b call) (direct-refused b call fullDraw)
   direct-keeps refresh h = drew refresh (λ ok. refresh-drawn b call ok good) (direct-refused b call refresh)
   direct-keeps (readSnapshot s) h = read-keeps s h
-  direct-keeps (writeSnapshot s) h = state-only (vramTest vram ∷ sizeTest s ∷ stateTest c ∷ []) (refl, (refl, (refl, tt))) c (λ p. (good .ready, quiet refl refl))
+  direct-keeps (writeSnapshot s) h = state-only (vramTest vram ∷ sizeTest s ∷ stateTest c ∷ []) (refl, (refl, (refl, tt))) _ (λ p. (good .ready, quiet refl refl))

@@ -9,31 +9,27 @@ use lib.ListN.{length, set, take, length-set}
 use lib.Seq.{length-take-le}
 use mir.Val.{boolByte}
 use borrow.Author.Tests.{eqb-true}
-use Rattle.chip.specs.State.{kept, powerUpState, withStatus}
+use Rattle.chip.specs.State.{kept}
 use Rattle.chip.specs.Map.{mapSize}
-use Rattle.chip.specs.Ports.{controlBy, control, dataWritten, dataRead, statusRead, displayEnded, interruptOn, wasReset}
-use Rattle.chip.specs.Layout.{blockSize, blockOf, blockTest, blockTests, decoded}
+use Rattle.chip.specs.Ports.{controlBy, control, interruptOn}
+use Rattle.chip.specs.Layout.{blockSize, blockOf, blockTest, blockTests}
 use Rattle.chip.specs.Refusals.{isAccepted, refusalOf, vramTest, sliceTest, stateTest, lineTest}
 use Rattle.chip.specs.Calls as chip
 use Rattle.chip.specs.declared.state.Chip.{Chip}
 use Rattle.chip.specs.declared.state.Waiting.{Waiting}
 use Rattle.chip.specs.declared.state.Waiting.the-variants.{Nothing, First}
-use Rattle.chip.specs.declared.refusal.Answer.{Answer}
 use Rattle.chip.proofs.Laws.Refusals.{all-pass}
-use Rattle.scanline.specs.Notes.{statusAfter}
 use Rattle.scanline.specs.Calls as scanline
 use Rattle.frame.specs.Lines.{frameSize, notesSize, lineCount}
-use Rattle.frame.specs.Draw.{notesOf, drawnState}
-use Rattle.frame.specs.Due.{due, newNotes, dueCount}
+use Rattle.frame.specs.Due.{due, dueCount}
 use Rattle.frame.specs.Calls as frame
 use Rattle.frame.proofs.Laws.Lines.{bit-small, count-le}
 use Rattle.snapshot.specs.Tests.{sizeTest, stateBytes}
 use Rattle.snapshot.specs.Calls as snapshot
 use Rattle.snapshot.proofs.Laws.Parts.{length-state}
-use Rattle.birdcleft.specs.Calls.{FromC}
 use Rattle.claims.specs.Bench.{Bench}
 use Rattle.claims.specs.Call.{Op, powerUp, controlWrite, dataWrite, dataRead as readData, statusRead as readStatus, endOfDisplay, interruptLine, reset, drawLine, fullDraw, refresh, readSnapshot, writeSnapshot, own, Call}
-use Rattle.claims.specs.Step.{Left, back, lentBench, directly, throughC, stepDirect, stepFromC}
+use Rattle.claims.specs.Step.{back, lentBench, directly, throughC, stepDirect, stepFromC}
 use Rattle.claims.proofs.Laws.States.{Ready}
 use Rattle.claims.proofs.Laws.Blocks.{Same, block-as-state, block-dropped, through-same, list-same}
 
@@ -52,22 +48,7 @@ eight-control x vram c e = by (c .waiting)
     by Nothing = record { is = e }
     by (First a) = either-eight (leb 128 x) (record { is = length-set (c .registers) (x % 8) (kept (x % 8) a) ∙ e }) (either-eight (ltb x 64) (record { is = e }) (record { is = e }))
 
--- What both leave is the same: the state, the parts of the number, the lists and the call's own slice.
 module _ (call : Call) (b : Bench) where
-  same-step : {l : Left FromC} {k : Left Answer} → Same (l .answer) (k .answer) → l .vram ≡ k .vram → l .map ≡ k .map → l .frame ≡ k .frame → l .notes ≡ k .notes → l .slice ≡ k .slice → stepFromC own call b l ≡ stepDirect call b k
-  same-step same ev em ef en es = λ i.
-      record {
-        bench =
-            record {
-              chip = same .state i;
-              vram = back (call .vram) (ev i) (b .vram);
-              map = back (call .map) (em i) (b .map);
-              frame = back (call .frame) (ef i) (b .frame);
-              notes = back (call .notes) (en i) (b .notes);
-            };
-        reply = record { refusal = same .refusal i; value = same .value i; slice = es i };
-      }
-
   module _ (ready : Ready (b .chip)) where
     abbrev lends : Bench
     lends = lentBench call b
@@ -95,6 +76,21 @@ module _ (call : Call) (b : Bench) where
 
     abbrev Claim : Op → Type 0
     Claim op = stepFromC own call b (throughC op (blockOf c) lends) ≡ stepDirect call b (directly op lends)
+
+    -- What both leave is the same: the state, the parts of the number, the lists and the call's own slice.
+    same-step : (op : Op) → let l = throughC op (blockOf c) lends in let k = directly op lends in Same (l .answer) (k .answer) → l .vram ≡ k .vram → l .map ≡ k .map → l .frame ≡ k .frame → l .notes ≡ k .notes → l .slice ≡ k .slice → Claim op
+    same-step op same ev em ef en es = λ i.
+        record {
+          bench =
+              record {
+                chip = same .state i;
+                vram = back (call .vram) (ev i) (b .vram);
+                map = back (call .map) (em i) (b .map);
+                frame = back (call .frame) (ef i) (b .frame);
+                notes = back (call .notes) (en i) (b .notes);
+              };
+          reply = record { refusal = same .refusal i; value = same .value i; slice = es i };
+        }
 
     -- calls that test the state, or VRAM and state, and touch no list
     state-refusal : refusalOf (blockTests (blockOf c)) ≡ refusalOf (stateTest c ∷ [])
@@ -135,51 +131,50 @@ module _ (call : Call) (b : Bench) where
 
     pub by-op : (op : Op) → Claim op
     by-op powerUp =
-        same-step (through-same ready _ power-up-refusal _ powerUpState 0 refl (λ ok. refl) (lit< tt))
+        same-step powerUp (through-same ready _ power-up-refusal _ _ _ refl (λ ok. refl) (lit< tt))
         (list-same ready _ power-up-refusal (λ s. chip.powerUpVram vram) _ _ refl) refl refl refl refl
     by-op (controlWrite x) =
-        same-step (through-same ready _ vram-refusal _ (control x vram c) 0 refl (λ ok. eight-control x vram c eight .is) (lit< tt))
+        same-step (controlWrite x) (through-same ready _ vram-refusal _ _ _ refl (λ ok. eight-control x vram c eight .is) (lit< tt))
         refl refl refl refl refl
     by-op (dataWrite x) =
-        same-step (through-same ready _ write-refusal _ (dataWritten x c) 0 refl (λ ok. eight) (lit< tt))
+        same-step (dataWrite x) (through-same ready _ write-refusal _ _ _ refl (λ ok. eight) (lit< tt))
         (list-same ready _ write-refusal (λ s. chip.dataWriteVram s vram map x) _ _ refl)
         (list-same ready _ write-refusal (λ s. chip.dataWriteMap s vram map) _ _ refl)
         refl refl refl
     by-op readData =
-        same-step (through-same ready _ vram-refusal _ (dataRead vram c) (c .buffer) refl (λ ok. eight) (ready .fits .buffer))
+        same-step readData (through-same ready _ vram-refusal _ _ _ refl (λ ok. eight) (ready .fits .buffer))
         refl refl refl refl refl
     by-op readStatus =
-        same-step (through-same ready _ state-refusal _ (statusRead c) (c .status) refl (λ ok. eight) (ready .fits .status))
+        same-step readStatus (through-same ready _ state-refusal _ _ _ refl (λ ok. eight) (ready .fits .status))
         refl refl refl refl refl
     by-op endOfDisplay =
-        same-step (through-same ready _ state-refusal _ (displayEnded c) 0 refl (λ ok. eight) (lit< tt)) refl refl refl refl refl
+        same-step endOfDisplay (through-same ready _ state-refusal _ _ _ refl (λ ok. eight) (lit< tt)) refl refl refl refl refl
     by-op interruptLine =
-        same-step (through-same ready _ state-refusal _ c (boolByte (interruptOn c)) refl (λ ok. eight) line-small) refl refl refl refl refl
+        same-step interruptLine (through-same ready _ state-refusal _ _ _ refl (λ ok. eight) line-small) refl refl refl refl refl
     by-op reset =
-        same-step (through-same ready _ state-refusal _ (wasReset c) 0 refl (λ ok. length-set (set r 0 0) 1 0 ∙ length-set r 0 0 ∙ eight) (lit< tt)) refl refl refl refl refl
+        same-step reset (through-same ready _ state-refusal _ _ _ refl (λ ok. length-set (set r 0 0) 1 0 ∙ length-set r 0 0 ∙ eight) (lit< tt)) refl refl refl refl refl
     by-op (drawLine line l) =
-        same-step (through-same ready _ (line-refusal line l) _ (withStatus (statusAfter (c .status) (scanline.noteAt r vram l)) c) 0 refl (λ ok. eight) (lit< tt))
+        same-step (drawLine line l) (through-same ready _ (line-refusal line l) _ _ _ refl (λ ok. eight) (lit< tt))
         refl refl refl refl
         (list-same ready _ (line-refusal line l) (λ s. scanline.drawLineLine s vram line l) _ _ refl)
     by-op fullDraw =
-        same-step (through-same ready _ draw-refusal _ (drawnState c (notesOf r vram)) 0 refl (λ ok. eight) (lit< tt))
+        same-step fullDraw (through-same ready _ draw-refusal _ _ _ refl (λ ok. eight) (lit< tt))
         refl
         (list-same ready _ draw-refusal (λ s. frame.drawMap s vram map frame-lent notes) _ _ refl)
         (list-same ready _ draw-refusal (λ s. frame.fullDrawFrame s vram map frame-lent notes) _ _ refl)
         (list-same ready _ draw-refusal (λ s. frame.fullDrawNotes s vram map frame-lent notes) _ _ refl)
         refl
     by-op refresh =
-        let n : List ℕ = newNotes (c .redraw) r vram map notes in
-        same-step (through-same ready _ draw-refusal _ (drawnState c n) (dueCount (c .redraw) r vram map) refl (λ ok. eight) count-small)
+        same-step refresh (through-same ready _ draw-refusal _ _ _ refl (λ ok. eight) count-small)
         refl
         (list-same ready _ draw-refusal (λ s. frame.drawMap s vram map frame-lent notes) _ _ refl)
         (list-same ready _ draw-refusal (λ s. frame.refreshFrame s vram map frame-lent notes) _ _ refl)
         (list-same ready _ draw-refusal (λ s. frame.refreshNotes s vram map frame-lent notes) _ _ refl)
         refl
     by-op (readSnapshot s) =
-        same-step (through-same ready _ (read-refusal s) _ (decoded (stateBytes s) true) 0 refl (read-eight s) (lit< tt))
+        same-step (readSnapshot s) (through-same ready _ (read-refusal s) _ _ _ refl (read-eight s) (lit< tt))
         (list-same ready _ (read-refusal s) (λ k. snapshot.readVram vram s) _ _ refl) refl refl refl refl
     by-op (writeSnapshot s) =
-        same-step (through-same ready _ (save-refusal s) _ c 0 refl (λ ok. eight) (lit< tt))
+        same-step (writeSnapshot s) (through-same ready _ (save-refusal s) _ _ _ refl (λ ok. eight) (lit< tt))
         refl refl refl refl
         (list-same ready _ (save-refusal s) (λ k. snapshot.written k vram s) _ _ refl)
