@@ -5,42 +5,27 @@ pub mod Snapshots
 use Prim.Native.Nat.{ℕ, _*_}
 use native.Mathlib.Omega.{arith}
 use mathlib.Core.Path.{_≡_, refl, ap, _∙_}
-use mathlib.Core.Bool.{Bool, true, false, cond, not, _||_}
+use mathlib.Core.Bool.{true, false}
 use mathlib.Core.List.{List, _∷_}
-use lib.Dec.{eqb}
 use lib.ListN.{length}
-use borrow.Author.Tests.{eqb-true, eq-eqb}
+use borrow.Author.Tests.{eqb-true, eq-eqb, ne-eqb}
 use Rattle.chip.specs.Refusals.{numberOf, resultOf, isAccepted, ifAccepted, refusalOf, vramTest, sliceTest}
 use Rattle.chip.specs.Map.{mapSize}
-use Rattle.chip.proofs.Laws.Refusals.{passed}
+use Rattle.chip.proofs.Laws.Refusals.{passed, is-accepted, all-pass}
 use Rattle.chip.specs.Layout.{blockOf, chipOf, blockTests, holdsBlock}
 use Rattle.chip.specs.declared.state.Chip.{Chip}
 use Rattle.chip.specs.declared.refusal.Answer.{Answer}
 use Rattle.chip.specs.declared.refusal.Refusal.{Refusal}
-use Rattle.chip.specs.declared.refusal.Refusal.the-variants.{Accepted, VramLength, SliceLength, IllFormed, LineNumber, SnapshotLength, Trailer, Checksum}
+use Rattle.chip.specs.declared.refusal.Refusal.the-variants.{Accepted}
 use Rattle.birdcleft.specs.Calls.{through}
 
 -- 256 times a refusal's number is 0 only where the call is accepted
 pub accepted-of : (r : Refusal) {x : ℕ} → x ≡ numberOf r * 256 → x ≡ 0 → r ≡ Accepted
-accepted-of Accepted e z = refl
-accepted-of VramLength e z = absurd (omega arith)
-accepted-of SliceLength e z = absurd (omega arith)
-accepted-of IllFormed e z = absurd (omega arith)
-accepted-of LineNumber e z = absurd (omega arith)
-accepted-of SnapshotLength e z = absurd (omega arith)
-accepted-of Trailer e z = absurd (omega arith)
-accepted-of Checksum e z = absurd (omega arith)
+accepted-of r e z = is-accepted r (eq-eqb (numberOf r) 0 (omega arith))
 
 -- 256 times a refusal's number is not 0 where the call is refused
 refused-of : (r : Refusal) {x : ℕ} → x ≡ numberOf r * 256 → (x ≡ 0 → ⊥) → isAccepted r ≡ false
-refused-of Accepted e n = absurd (n e)
-refused-of VramLength e n = refl
-refused-of SliceLength e n = refl
-refused-of IllFormed e n = refl
-refused-of LineNumber e n = refl
-refused-of SnapshotLength e n = refl
-refused-of Trailer e n = refl
-refused-of Checksum e n = refl
+refused-of r e n = ne-eqb (numberOf r) 0 (λ z. n (e ∙ ap (λ (k : ℕ). k * 256) z))
 
 -- what a lent slice holds at exit
 module _ (new old : List ℕ) (r : Refusal) where
@@ -64,13 +49,8 @@ module _ (block : List ℕ) (method : Chip → Answer) where
 -- an accepted block has 15 bytes, which hold a state
 pub accepted-block : (b : List ℕ) → refusalOf (blockTests b) ≡ Accepted → (length b ≡ 15) × (holdsBlock b ≡ true)
 accepted-block b e =
-    let both = by (eqb (length b) 15) (holdsBlock b) (ap numberOf e) in
-    (eqb-true (length b) 15 (both .0), both .1)
-  where
-    by : (x y : Bool) → numberOf (cond (not x || false) SliceLength (cond (not y || false) IllFormed Accepted)) ≡ 0 → (x ≡ true) × (y ≡ true)
-    by true true e = (refl, refl)
-    by true false e = absurd (omega arith)
-    by false y e = absurd (omega arith)
+    let p = all-pass (blockTests b) (refl, (refl, tt)) (ap isAccepted e) in
+    (eqb-true (length b) 15 (p .0), p .1 .0)
 
 -- past a VRAM slice, and a map, of the right length the block decides
 pub past-vram : (v b : List ℕ) → length v ≡ 16384 → refusalOf (vramTest v ∷ blockTests b) ≡ refusalOf (blockTests b)

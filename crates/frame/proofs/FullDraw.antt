@@ -8,11 +8,10 @@ use lib.ListN.{length}
 use borrow.Author.Tests.{eq-eqb, le-leb}
 use Rattle.chip.specs.Lists.{tabulate}
 use Rattle.chip.specs.State.{wellFormed, withStatus, withRedraw}
-use Rattle.chip.specs.Refusals.{vramTest, sliceTest, stateTest, lineTest, ifAccepted}
+use Rattle.chip.specs.Refusals.{vramTest, sliceTest, stateTest, lineTest}
 use Rattle.chip.specs.declared.state.Chip.{Chip}
-use Rattle.chip.specs.declared.refusal.Refusal.{Refusal}
 use Rattle.chip.specs.declared.refusal.Refusal.the-variants.{Accepted}
-use Rattle.chip.proofs.Laws.Refusals.{passed}
+use Rattle.chip.proofs.Laws.Refusals.{the-new, all-accepted}
 use Rattle.scanline.specs.Notes.{statusAfter}
 use Rattle.scanline.specs.Calls.{noteAt, colours, drawLine, drawLineRefusal}
 use Rattle.frame.specs.Lines.{endToEnd}
@@ -22,11 +21,6 @@ use Rattle.frame.specs.LineDraws.{stateAfter, drawnLine}
 use Rattle.frame.proofs.Laws.Status.{one-note-more}
 use Rattle.frame.proofs.Laws.Lines.{end-same}
 
--- what an accepted call leaves is the new
-module _ {A : Type 0} {r : Refusal} (ok : r ≡ Accepted) (new old : A) where
-  the-new : ifAccepted r new old ≡ new
-  the-new = rw ok
-
 -- a table of one entry more
 one-more : (n : ℕ) (f : ℕ → ℕ) → tabulate (suc n) f ≡ tabulate n f ++ (f n ∷ [])
 unfolding tabulate
@@ -35,11 +29,8 @@ one-more (suc n) f = ap (λ (l : List ℕ). f 0 ∷ l) (one-more n (λ i. f (suc
 
 full-accepted : (c : Chip) (vram map frame notes : List ℕ) → wellFormed c ≡ true → length vram ≡ 16384 → length map ≡ 2048 → length frame ≡ 49152 → length notes ≡ 192 → drawRefusal c vram map frame notes ≡ Accepted
 full-accepted c vram map frame notes ok v m f n =
-    passed (vramTest vram) (sliceTest 2048 map ∷ sliceTest 49152 frame ∷ sliceTest 192 notes ∷ stateTest c ∷ []) (eq-eqb _ _ v)
-    ∙ passed (sliceTest 2048 map) (sliceTest 49152 frame ∷ sliceTest 192 notes ∷ stateTest c ∷ []) (eq-eqb _ _ m)
-    ∙ passed (sliceTest 49152 frame) (sliceTest 192 notes ∷ stateTest c ∷ []) (eq-eqb _ _ f)
-    ∙ passed (sliceTest 192 notes) (stateTest c ∷ []) (eq-eqb _ _ n)
-    ∙ passed (stateTest c) [] ok
+    all-accepted (vramTest vram ∷ sliceTest 2048 map ∷ sliceTest 49152 frame ∷ sliceTest 192 notes ∷ stateTest c ∷ [])
+    (eq-eqb _ _ v, (eq-eqb _ _ m, (eq-eqb _ _ f, (eq-eqb _ _ n, (ok, tt)))))
 
 -- the state whose status has followed the notes of lines 0 to n - 1
 abbrev after : List ℕ → Chip → ℕ → Chip
@@ -53,10 +44,7 @@ still-formed s c ok = ok
 module _ (vram : List ℕ) (slices : ℕ → List ℕ) (full : length vram ≡ 16384) (wide : (l : ℕ) → length (slices l) ≡ 256) where
   line-accepted : (c : Chip) → wellFormed c ≡ true → (l : ℕ) → l < 192 → drawLineRefusal c vram (slices l) l ≡ Accepted
   line-accepted c ok l h =
-      passed (vramTest vram) (sliceTest 256 (slices l) ∷ stateTest c ∷ lineTest l ∷ []) (eq-eqb _ _ full)
-      ∙ passed (sliceTest 256 (slices l)) (stateTest c ∷ lineTest l ∷ []) (eq-eqb _ _ (wide l))
-      ∙ passed (stateTest c) (lineTest l ∷ []) ok
-      ∙ passed (lineTest l) [] (le-leb l 191 (omega arith))
+      all-accepted (vramTest vram ∷ sliceTest 256 (slices l) ∷ stateTest c ∷ lineTest l ∷ []) (eq-eqb _ _ full, (eq-eqb _ _ (wide l), (ok, (le-leb l 191 (omega arith), tt))))
 
   module _ (c : Chip) (ok : wellFormed c ≡ true) where
     -- the draws change status alone

@@ -7,10 +7,9 @@ use lib.ListN.{length, drop}
 use Rattle.chip.specs.State.{Bytes, Fits, wellFormed, powerUpState}
 use Rattle.chip.specs.Ports.{clearedVram}
 use Rattle.chip.specs.Layout.{decoded}
-use Rattle.chip.specs.Refusals.{ifAccepted}
 use Rattle.chip.specs.declared.state.Chip.{Chip}
-use Rattle.chip.specs.declared.refusal.Refusal.{Refusal}
 use Rattle.chip.specs.declared.refusal.Refusal.the-variants.{Accepted}
+use Rattle.chip.proofs.Laws.Refusals.{the-new}
 use Rattle.chip.proofs.Laws.Layout.{decoded-encoded}
 use Rattle.snapshot.specs.Format.{snapshotOf}
 use Rattle.snapshot.specs.Tests.{trailerAt, stateBytes, vramBytes}
@@ -20,11 +19,6 @@ use Rattle.snapshot.proofs.Laws.Parts.{length-vram}
 use Rattle.snapshot.proofs.Laws.Refusals.{write-accepted, read-accepted, accepted-readable}
 use Rattle.snapshot.proofs.Laws.Written.{readable, state-back, vram-back}
 use Rattle.snapshot.proofs.Laws.Accepted.{held-well-formed, file-back}
-
--- what an accepted call leaves is the new
-module _ {A : Type 0} {r : Refusal} (ok : r ≡ Accepted) (new old : A) where
-  the-new : ifAccepted r new old ≡ new
-  the-new = rw ok
 
 -- Take any well-formed state whose values fit their types, any 16,384 bytes of VRAM, and a slice of 16,406 to write to,
 -- whatever it holds; let the reader have any state and any VRAM of its own. Then writing is accepted, what it writes are

@@ -1,40 +1,20 @@
 -- Full draw and refresh: one refusal, and what follows it.
 use Prim.Native.Nat.{ℕ, _*_}
-use native.Mathlib.Omega.{arith}
 use mathlib.Core.Path.{_≡_, refl, ap}
-use mathlib.Core.Bool.{Bool, true, false}
-use mathlib.Core.List.{List, [], _∷_}
+use mathlib.Core.List.{List, _∷_}
 use borrow.Author.Tests.{eqb-true}
-use lib.Dec.{eqb}
 use lib.ListN.{length}
-use Rattle.chip.specs.Refusals.{numberOf, resultOf, Test, refusalOf, ifAccepted}
-use Rattle.chip.specs.Layout.{blockOf, chipOf, holdsBlock}
+use Rattle.chip.specs.Map.{mapSize}
+use Rattle.chip.specs.Refusals.{numberOf, resultOf, isAccepted, refusalOf, ifAccepted, vramTest, sliceTest}
+use Rattle.chip.specs.Layout.{blockOf, chipOf, blockTests}
 use Rattle.chip.specs.declared.state.Chip.{Chip}
 use Rattle.chip.specs.declared.refusal.Answer.{Answer}
 use Rattle.chip.specs.declared.refusal.Refusal.{Refusal}
-use Rattle.chip.specs.declared.refusal.Refusal.the-variants.{VramLength, SliceLength, IllFormed}
+use Rattle.chip.proofs.Laws.Refusals.{all-pass}
+use Rattle.frame.specs.Lines.{frameSize, notesSize}
 use Rattle.birdcleft.specs.Calls.{through}
 use Rattle.birdcleft.specs.Frames.{drawRefusal}
 use Rattle.birdcleft.proofs.Laws.{accepted-of, refused-through, refused-keeps, accepted-through, accepted-takes}
-
-abbrev tests : Bool → Bool → Bool → Bool → Bool → Bool → List Test
-tests v m f n b s =
-    record { refusal = VramLength; passes = v }
-    ∷ record { refusal = SliceLength; passes = m }
-    ∷ record { refusal = SliceLength; passes = f }
-    ∷ record { refusal = SliceLength; passes = n }
-    ∷ record { refusal = SliceLength; passes = b }
-    ∷ record { refusal = IllFormed; passes = s }
-    ∷ []
-
--- where all pass, the block's length does
-block-passes : (v m f n b s : Bool) → numberOf (refusalOf (tests v m f n b s)) ≡ 0 → b ≡ true
-block-passes false m f n b s e = absurd (omega arith)
-block-passes true false f n b s e = absurd (omega arith)
-block-passes true true false n b s e = absurd (omega arith)
-block-passes true true true false b s e = absurd (omega arith)
-block-passes true true true true false s e = absurd (omega arith)
-block-passes true true true true true s e = refl
 
 -- what a call answers, and what the block, the map, the frame and the notes then hold
 module _ (r : Refusal) (block map frame notes : List ℕ) (method : Chip → Answer) (newMap newFrame newNotes : List ℕ) where
@@ -50,9 +30,9 @@ module _ (r : Refusal) (block map frame notes : List ℕ) (method : Chip → Ans
 module _ (block vram map frame notes : List ℕ) {x : ℕ} (number : x ≡ numberOf (drawRefusal block vram map frame notes) * 256) where
   pub fifteen : x ≡ 0 → length block ≡ 15
   fifteen none =
-      eqb-true _ _
-      (block-passes (eqb (length vram) 16384) (eqb (length map) 2048) (eqb (length frame) 49152) (eqb (length notes) 192) (eqb (length block) 15) (holdsBlock block)
-      (ap numberOf (accepted-of (drawRefusal block vram map frame notes) number none)))
+      let ts = vramTest vram ∷ sliceTest mapSize map ∷ sliceTest frameSize frame ∷ sliceTest notesSize notes ∷ blockTests block in
+      let p = all-pass ts (refl, (refl, (refl, (refl, (refl, (refl, tt)))))) (ap isAccepted (accepted-of (refusalOf ts) number none)) in
+      eqb-true _ _ (p .1 .1 .1 .1 .0)
 
   module _ (method : Chip → Answer) (newMap newFrame newNotes : List ℕ) where
     -- a refused call leaves all that it was lent

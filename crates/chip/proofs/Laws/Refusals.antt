@@ -5,7 +5,7 @@ use mathlib.Core.Bool.{Bool, true, false, cond, not, _&&_, _||_}
 use mathlib.Core.List.{List, [], _∷_}
 use borrow.Author.Tests.{eqb-false, eq-eqb}
 use lib.Dec.{eqb, lit≤}
-use Rattle.chip.specs.Refusals.{numberOf, isAccepted, order, Test, gives, firstOf, refusalOf}
+use Rattle.chip.specs.Refusals.{numberOf, isAccepted, order, Test, gives, firstOf, refusalOf, ifAccepted}
 use Rattle.chip.proofs.Laws.Ranges.{and-false}
 use Rattle.chip.specs.declared.refusal.Refusal.{Refusal}
 use Rattle.chip.specs.declared.refusal.Refusal.the-variants.{Accepted, VramLength, SliceLength, IllFormed, LineNumber, SnapshotLength, Trailer, Checksum}
@@ -24,6 +24,29 @@ number-small Checksum = lit≤ tt
 pub passed : (t : Test) (ts : List Test) → t .passes ≡ true → refusalOf (t ∷ ts) ≡ refusalOf ts
 passed t ts h = simp (h, and-false)
 
+pub differ : true ≡ false → ⊥
+differ e = eqb-false 0 0 e refl
+
+pub neither : (p q : Bool) → (p || q) ≡ false → (p ≡ false) × (q ≡ false)
+neither true q e = absurd (differ e)
+neither false q e = (refl, e)
+
+-- the one refusal with number 0
+pub is-accepted : (r : Refusal) → isAccepted r ≡ true → r ≡ Accepted
+is-accepted Accepted h = refl
+is-accepted VramLength h = absurd (differ (sym h))
+is-accepted SliceLength h = absurd (differ (sym h))
+is-accepted IllFormed h = absurd (differ (sym h))
+is-accepted LineNumber h = absurd (differ (sym h))
+is-accepted SnapshotLength h = absurd (differ (sym h))
+is-accepted Trailer h = absurd (differ (sym h))
+is-accepted Checksum h = absurd (differ (sym h))
+
+-- what an accepted call leaves is the new
+module _ {A : Type 0} {r : Refusal} (ok : r ≡ Accepted) (new old : A) where
+  pub the-new : ifAccepted r new old ≡ new
+  the-new = rw ok
+
 -- every test of a list passes
 abbrev pub AllPass : List Test → Type 0
 AllPass [] = Unit {0}
@@ -33,13 +56,6 @@ AllPass (t ∷ ts) = (t .passes ≡ true) × AllPass ts
 abbrev pub AllRefuse : List Test → Type 0
 AllRefuse [] = Unit {0}
 AllRefuse (t ∷ ts) = (isAccepted (t .refusal) ≡ false) × AllRefuse ts
-
-pub differ : true ≡ false → ⊥
-differ e = eqb-false 0 0 e refl
-
-pub neither : (p q : Bool) → (p || q) ≡ false → (p ≡ false) × (q ≡ false)
-neither true q e = absurd (differ e)
-neither false q e = (refl, e)
 
 -- A call is accepted where every test passes ..
 none-given : (ts : List Test) → AllPass ts → (r : Refusal) → gives ts r ≡ false

@@ -3,40 +3,24 @@ use Prim.Native.Nat.{ℕ}
 use mathlib.Core.Path.{_≡_, refl, sym, ap, _∙_}
 use mathlib.Core.Bool.{Bool, true, false, cond}
 use mathlib.Core.List.{List, [], _∷_}
-use borrow.Author.Tests.{ne-eqb, eq-eqb}
-use Rattle.chip.specs.Refusals.{Test, numberOf, isAccepted, refusalOf, ifAccepted, answered}
+use lib.ListN.{length}
+use borrow.Author.Tests.{eqb-true, ne-eqb, eq-eqb}
+use Rattle.chip.specs.Map.{mapSize}
+use Rattle.chip.specs.State.{masked}
+use Rattle.chip.specs.Refusals.{numberOf, isAccepted, ifAccepted, answered, vramTest, sliceTest, stateTest}
 use Rattle.chip.specs.declared.state.Chip.{Chip}
 use Rattle.chip.specs.declared.refusal.Refusal.{Refusal}
-use Rattle.chip.specs.declared.refusal.Refusal.the-variants.{Accepted, VramLength, SliceLength, IllFormed, LineNumber, SnapshotLength, Trailer, Checksum}
-use Rattle.frame.proofs.Laws.Marks.{differ}
+use Rattle.chip.specs.declared.refusal.Refusal.the-variants.{Accepted}
+use Rattle.chip.proofs.Laws.State.{masked-in}
+use Rattle.chip.proofs.Laws.Refusals.{all-pass, is-accepted}
+use Rattle.frame.specs.Lines.{frameSize, notesSize}
+use Rattle.frame.specs.Calls.{drawRefusal}
 
-abbrev pub tests : Bool → Bool → Bool → Bool → Bool → List Test
-tests a b c d e =
-    record { refusal = VramLength; passes = a }
-    ∷ record { refusal = SliceLength; passes = b }
-    ∷ record { refusal = SliceLength; passes = c }
-    ∷ record { refusal = SliceLength; passes = d }
-    ∷ record { refusal = IllFormed; passes = e }
-    ∷ []
-
-pub all-pass : (a b c d e : Bool) → isAccepted (refusalOf (tests a b c d e)) ≡ true → (a ≡ true) × (b ≡ true) × (c ≡ true) × (d ≡ true) × (e ≡ true)
-all-pass true true true true true h = (refl, refl, refl, refl, refl)
-all-pass false b c d e h = absurd (differ (sym h))
-all-pass true false c d e h = absurd (differ (sym h))
-all-pass true true false d e h = absurd (differ (sym h))
-all-pass true true true false e h = absurd (differ (sym h))
-all-pass true true true true false h = absurd (differ (sym h))
-
--- The one refusal with number 0.
-pub is-accepted : (r : Refusal) → isAccepted r ≡ true → r ≡ Accepted
-is-accepted Accepted h = refl
-is-accepted VramLength h = absurd (differ (sym h))
-is-accepted SliceLength h = absurd (differ (sym h))
-is-accepted IllFormed h = absurd (differ (sym h))
-is-accepted LineNumber h = absurd (differ (sym h))
-is-accepted SnapshotLength h = absurd (differ (sym h))
-is-accepted Trailer h = absurd (differ (sym h))
-is-accepted Checksum h = absurd (differ (sym h))
+-- What acceptance shows, as the code beneath asks it.
+pub accepted-shows : (c : Chip) (vram map frame notes : List ℕ) → isAccepted (drawRefusal c vram map frame notes) ≡ true → (masked (c .registers) ≡ true) × (length vram ≡ 16384) × (length map ≡ 2048) × (length frame ≡ 49152) × (length notes ≡ 192)
+accepted-shows c vram map frame notes ok =
+    let p = all-pass (vramTest vram ∷ sliceTest mapSize map ∷ sliceTest frameSize frame ∷ sliceTest notesSize notes ∷ stateTest c ∷ []) (refl, (refl, (refl, (refl, (refl, tt))))) ok in
+    (masked-in c (p .1 .1 .1 .1 .0), eqb-true _ _ (p .0), eqb-true _ _ (p .1 .0), eqb-true _ _ (p .1 .1 .0), eqb-true _ _ (p .1 .1 .1 .0))
 
 -- The refusal R that a call tested for is r, and its number n.
 module _ {R r : Refusal} (same : r ≡ R) {n : ℕ} (number : n ≡ numberOf r) where

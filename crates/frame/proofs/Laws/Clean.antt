@@ -5,6 +5,7 @@ use mathlib.Core.Bool.{Bool, true, false, cond, _||_}
 use mathlib.Core.List.{List}
 use lib.ListN.{length, getD, set}
 use Rattle.chip.specs.Map.{marked}
+use Rattle.chip.proofs.Laws.Refusals.{differ, neither}
 use Rattle.chip.proofs.Laws.Lists.{length-tabulate, getD-tabulate, tabulated}
 use Rattle.fetches.specs.Fetch.{value, fetched, anyMarked}
 use Rattle.fetches.proofs.Laws.{same-value, same-fetched}
@@ -15,7 +16,7 @@ use Rattle.frame.specs.Lines.{lineAt}
 use Rattle.frame.specs.Draw.{frameOf, notesOf}
 use Rattle.frame.specs.Due.{due, newFrame, newNotes, newLine, newNote}
 use Rattle.frame.proofs.Laws.Lines.{end-same, line-of-end}
-use Rattle.frame.proofs.Laws.Marks.{differ, neither, unmarked}
+use Rattle.frame.proofs.Laws.Marks.{unmarked}
 
 pub record Clean (mark : Bool) (r vram map frame notes : List ℕ) : Type 0 where
   pub line : (l : ℕ) → l < 192 → due mark r vram map l ≡ false → lineAt frame l ≡ colours r vram l

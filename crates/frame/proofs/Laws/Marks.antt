@@ -13,6 +13,7 @@ use lib.Seq.{getD-set-same, getD-set-other}
 use borrow.Author.Tests.{eqb-true, eqb-false, eq-eqb}
 use Rattle.chip.specs.Bits.{bit, setBit}
 use Rattle.chip.specs.Map.{marked, isMarked}
+use Rattle.chip.proofs.Laws.Refusals.{differ, neither}
 use Rattle.fetches.specs.Fetch.{Agree, anyMarked}
 
 last-bit : (n m : ℕ) → m < 2 → (n * 2 + m) % 2 ≡ m
@@ -53,13 +54,6 @@ module _ (map : List ℕ) (i : ℕ) where
           ap (bit (j % 8)) here ∙ bit-kept (j % 8) (getD map (j / 8) 0) (2 ^ (i % 8)) m
       by false e =
           ap (bit (j % 8)) (getD-set-other map (i / 8) (j / 8) (setBit (i % 8) (getD map (i / 8) 0)) 0 (eqb-false (j / 8) (i / 8) e)) ∙ m
-
-pub differ : true ≡ false → ⊥
-differ e = eqb-false 0 0 e refl
-
-pub neither : (p q : Bool) → (p || q) ≡ false → (p ≡ false) × (q ≡ false)
-neither true q e = absurd (differ e)
-neither false q e = (refl, e)
 
 before : (p q : Bool) → (p ≡ true → q ≡ true) → q ≡ false → p ≡ false
 before true q f e = sym (f refl) ∙ e

@@ -1,18 +1,13 @@
 -- `full_draw` meets its contract.
 use mathlib.Core.Path.{ap, _∙_}
-use lib.Dec.{eqb}
-use lib.ListN.{length}
-use borrow.Author.Tests.{eqb-true}
 use denote.Ref.{now}
-use Rattle.chip.specs.State.{wellFormed}
 use Rattle.chip.specs.declared.state.Chip.{Chip}
 use Rattle.chip.specs.declared.refusal.Answer.{Answer}
 use Rattle.chip.specs.declared.refusal.Refusal.{Refusal}
-use Rattle.chip.proofs.Laws.State.{masked-in}
 use Rattle.frame.specs.Draw.{drawnState}
 use Rattle.frame.proofs.Laws.Clean.{clean-marked, refreshed-frame, refreshed-notes}
 use borrow.Author.Needs.{needs}
-use Rattle.frame.proofs.Laws.Calls.{all-pass, refused-answer, refused-list, was-accepted, accepted-answer, accepted-list}
+use Rattle.frame.proofs.Laws.Calls.{accepted-shows, refused-answer, refused-list, was-accepted, accepted-answer, accepted-list}
 use Rattle.frame.proofs.calls.full_draw.Statement.{statement}
 use Rattle.frame.proofs.calls.full_draw.Tie as tie
 
@@ -45,8 +40,7 @@ draw-due-requires : tie.Need-draw-due-requires
 draw-due-requires c κs =
     let a = c .before .before .before .before .before .before .before .before .before .before .before .before .before .args in
     let accepted = was-accepted (c .before .before .before .before .before .tested .ensures) (c .before .before .before .before .number .ensures) (c .before .before .before .if1 .left) in
-    let pass = all-pass (eqb (length (now (a .vram))) 16384) (eqb (length (now (a .map))) 2048) (eqb (length (now (a .frame))) 49152) (eqb (length (now (a .notes))) 192) (wellFormed (a .chip)) accepted in
-    (masked-in (a .chip) (pass .4), eqb-true _ _ (pass .0), eqb-true _ _ (pass .1), eqb-true _ _ (pass .2), eqb-true _ _ (pass .3))
+    accepted-shows (a .chip) (now (a .vram)) (now (a .map)) (now (a .frame)) (now (a .notes)) accepted
 
 accepted-requires : tie.Need-accepted-requires
 accepted-requires c κs = search needs

@@ -1,13 +1,8 @@
 -- `refresh` meets its contract.
 use mathlib.Core.Path.{_∙_}
-use lib.Dec.{eqb}
-use lib.ListN.{length}
-use borrow.Author.Tests.{eqb-true}
 use denote.Ref.{now}
-use Rattle.chip.specs.State.{wellFormed}
-use Rattle.chip.proofs.Laws.State.{masked-in}
 use borrow.Author.Needs.{needs}
-use Rattle.frame.proofs.Laws.Calls.{all-pass, refused-answer, refused-list, was-accepted, accepted-answer, accepted-list}
+use Rattle.frame.proofs.Laws.Calls.{accepted-shows, refused-answer, refused-list, was-accepted, accepted-answer, accepted-list}
 use Rattle.frame.proofs.calls.refresh.Statement.{statement}
 use Rattle.frame.proofs.calls.refresh.Tie as tie
 
@@ -40,8 +35,7 @@ draw-due-requires : tie.Need-draw-due-requires
 draw-due-requires c κs =
     let a = c .before .before .before .before .before .before .before .before .before .before .before .before .before .args in
     let accepted = was-accepted (c .before .before .before .before .before .tested .ensures) (c .before .before .before .before .number .ensures) (c .before .before .before .if1 .left) in
-    let pass = all-pass (eqb (length (now (a .vram))) 16384) (eqb (length (now (a .map))) 2048) (eqb (length (now (a .frame))) 49152) (eqb (length (now (a .notes))) 192) (wellFormed (a .chip)) accepted in
-    (masked-in (a .chip) (pass .4), eqb-true _ _ (pass .0), eqb-true _ _ (pass .1), eqb-true _ _ (pass .2), eqb-true _ _ (pass .3))
+    accepted-shows (a .chip) (now (a .vram)) (now (a .map)) (now (a .frame)) (now (a .notes)) accepted
 
 same-length-4 : tie.Need-same-length-4
 same-length-4 c = search needs
