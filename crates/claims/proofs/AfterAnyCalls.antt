@@ -76,7 +76,7 @@ after-any-calls start lengths typed first o accepted calls bytes =
       good .ready .well-formed,
       record { chip = good .ready .fits; vram = good .bytes },
       good .lengths,
-      λ op. (answers op, ap (λ (s : Step). s .reply .refusal) (by-op (whole op (fromC own)) b (good .ready) op) ∙ answers op),
+      λ op. (answers op, ap (λ (s : Step). s .reply .refusal) (by-op (whole op (fromC own)) b (good .ready .fits) op) ∙ answers op),
     )
 
 -- So after any such list a refresh is accepted, directly and from C.

@@ -6,7 +6,7 @@ use mathlib.Core.List.{List, [], _∷_}
 use lib.Dec.{eqb}
 use lib.ListN.{length}
 use borrow.Author.Tests.{eqb-true, eq-eqb, ne-eqb}
-use Rattle.chip.specs.State.{Fits, wellFormed}
+use Rattle.chip.specs.State.{Fits}
 use Rattle.chip.specs.Map.{mapSize}
 use Rattle.chip.specs.Refusals.{Test, isAccepted, refusalOf, vramTest, sliceTest, stateTest, lineTest}
 use Rattle.chip.proofs.Laws.Refusals.{AllPass, AllRefuse, all-pass, differ}
@@ -22,19 +22,19 @@ use Rattle.claims.proofs.Laws.Refused.{direct-refused}
 use Rattle.claims.proofs.Laws.FromC.{by-op}
 use Rattle.claims.proofs.Laws.Wrong.{wrong-refused, wrong-leaves}
 
--- From C a call is the direct call: on every well-formed state that fits its types, lent whatever lists, a call from C with
--- the state's own block leaves the same bench and gives the same answer as the same call made directly.
-pub from-c : (b : Bench) → Fits (b .chip) → wellFormed (b .chip) ≡ true → (call : Call) → call .caller ≡ fromC own → step b call ≡ stepBy direct call b
+-- From C a call is the direct call: on every state that fits its types, well-formed or not, and lent whatever lists, a call
+-- from C with the state's own block leaves the same bench and gives the same answer as the same call made directly.
+pub from-c : (b : Bench) → Fits (b .chip) → (call : Call) → call .caller ≡ fromC own → step b call ≡ stepBy direct call b
 unfolding step
-from-c b fits ok call is = ap (λ (k : Caller). stepBy k call b) is ∙ by-op call b (record { fits = fits; well-formed = ok }) (call .op)
+from-c b fits call is = ap (λ (k : Caller). stepBy k call b) is ∙ by-op call b fits (call .op)
 
 -- A refused call leaves the bench as it was: whatever was lent, on every well-formed state that fits its types.
-pub refused-leaves : (b : Bench) → Fits (b .chip) → wellFormed (b .chip) ≡ true → (call : Call) → (step b call .reply .refusal ≡ 0 → ⊥) → step b call .bench ≡ b
+pub refused-leaves : (b : Bench) → Fits (b .chip) → (call : Call) → (step b call .reply .refusal ≡ 0 → ⊥) → step b call .bench ≡ b
 unfolding step
-refused-leaves b fits ok call = by (call .caller)
+refused-leaves b fits call = by (call .caller)
   where
     same : stepBy (fromC own) call b ≡ stepBy direct call b
-    same = by-op call b (record { fits = fits; well-formed = ok }) (call .op)
+    same = by-op call b fits (call .op)
 
     by : (k : Caller) → (stepBy k call b .reply .refusal ≡ 0 → ⊥) → stepBy k call b .bench ≡ b
     by direct refused = direct-refused b call (call .op) (ne-eqb _ _ refused)
@@ -91,16 +91,16 @@ module _ (b : Bench) (call : Call) where
 -- A call that was lent a list of the wrong length in place of one that it takes, or a wrong block, is refused, and the next
 -- call finds the bench as it was. (A list that the call does not take is not looked at.) `step` does not say so: it
 -- applies the call's definition to what was lent.
-pub wrongly-lent : (b : Bench) → Fits (b .chip) → wellFormed (b .chip) ≡ true → (call : Call) → wronglyLent call ≡ true → (step b call .reply .refusal ≡ 0 → ⊥) × (step b call .bench ≡ b)
+pub wrongly-lent : (b : Bench) → Fits (b .chip) → (call : Call) → wronglyLent call ≡ true → (step b call .reply .refusal ≡ 0 → ⊥) × (step b call .bench ≡ b)
 unfolding step
-wrongly-lent b fits ok call wrong = (refused, refused-leaves b fits ok call refused)
+wrongly-lent b fits call wrong = (refused, refused-leaves b fits call refused)
   where
     if-direct : given b call (call .op) ≡ true → stepBy direct call b .reply .refusal ≡ 0 → ⊥
     if-direct w e = differ (sym w ∙ accepted-given b call (call .op) (eq-eqb _ _ e))
 
     by : (k : Caller) → (otherBlock k || takesVram (call .op) && isOther (call .vram) || takesMap (call .op) && isOther (call .map) || takesFrame (call .op) && (isOther (call .frame) || isOther (call .notes))) ≡ true → stepBy k call b .reply .refusal ≡ 0 → ⊥
     by direct w e = if-direct w e
-    by (fromC own) w e = if-direct w (sym (ap (λ (s : Step). s .reply .refusal) (by-op call b (record { fits = fits; well-formed = ok }) (call .op))) ∙ e)
+    by (fromC own) w e = if-direct w (sym (ap (λ (s : Step). s .reply .refusal) (by-op call b fits (call .op))) ∙ e)
     by (fromC (other k short)) w e = wrong-refused b call k short (call .op) e
 
     refused : step b call .reply .refusal ≡ 0 → ⊥

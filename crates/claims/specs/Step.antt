@@ -1,7 +1,7 @@
 -- What a call does to the bench: the definitions that the contracts cite, applied to what was lent.
 use Prim.Native.Nat.{ℕ, _/_, _%_}
 use mathlib.Core.List.{List, [], _∷_}
-use Rattle.chip.specs.Layout.{blockOf, chipOf}
+use Rattle.chip.specs.Layout.{blockSize, blockOf, chipOf}
 use Rattle.chip.specs.Refusals.{numberOf}
 use Rattle.chip.specs.Calls as chip
 use Rattle.chip.specs.declared.state.Chip.{Chip}
@@ -70,6 +70,10 @@ directly refresh b =
 directly (readSnapshot s) b = replaces b (snapshot.readSnapshot (b .chip) (b .vram) s) (snapshot.readVram (b .vram) s)
 directly (writeSnapshot s) b = fills b (snapshot.writeSnapshot (b .chip) (b .vram) s) (snapshot.written (b .chip) (b .vram) s)
 
+-- Two calls from C are lent the block to read, and cannot change it.
+abbrev pub reads : List ℕ → FromC → FromC
+reads block a = record { result = a .result; block = block }
+
 -- The call from C, with this block as the state.
 abbrev pub throughC : Op → List ℕ → Bench → Left FromC
 throughC powerUp block b = replaces b (c-ports.powerUp block (b .vram)) (c-ports.powerUpVram block (b .vram))
@@ -81,7 +85,7 @@ throughC (dataWrite x) block b =
 throughC dataRead block b = answers b (c-ports.dataRead block (b .vram))
 throughC statusRead block b = answers b (c-ports.statusRead block)
 throughC endOfDisplay block b = answers b (c-ports.endOfDisplay block)
-throughC interruptLine block b = answers b (c-ports.interruptLine block)
+throughC interruptLine block b = answers b (reads block (c-ports.interruptLine block))
 throughC reset block b = answers b (c-ports.reset block)
 throughC (drawLine line l) block b = fills b (c-lines.drawLine block (b .vram) line l) (c-lines.drawLineLine block (b .vram) line l)
 throughC fullDraw block b =
@@ -95,7 +99,7 @@ throughC refresh block b =
     (c-frames.refreshFrame block (b .vram) (b .map) (b .frame) (b .notes))
     (c-frames.refreshNotes block (b .vram) (b .map) (b .frame) (b .notes))
 throughC (readSnapshot s) block b = replaces b (c-snapshots.readSnapshot block (b .vram) s) (c-snapshots.readVram block (b .vram) s)
-throughC (writeSnapshot s) block b = fills b (c-snapshots.writeSnapshot block (b .vram) s) (c-snapshots.written block (b .vram) s)
+throughC (writeSnapshot s) block b = fills b (reads block (c-snapshots.writeSnapshot block (b .vram) s)) (c-snapshots.written block (b .vram) s)
 
 -- What a call is lent for one of the bench's lists, and what the bench has of it afterwards: the list as the call left it,
 -- or, where another was lent, the true one as it was.
@@ -153,7 +157,7 @@ stepDirect call b left =
       reply = record { refusal = numberOf (left .answer .refusal); value = left .answer .value; slice = left .slice };
     }
 
-abbrev pub stepFromC : Lent 15 → Call → Bench → Left FromC → Step
+abbrev pub stepFromC : Lent blockSize → Call → Bench → Left FromC → Step
 stepFromC block call b left =
     record {
       bench = benchBack call b (stateBack block (left .answer .block) (b .chip)) left;

@@ -98,17 +98,17 @@ module _ (c : Chip) (eight : length (c .registers) ≡ 8) where
       ∙ decoded-front (encoded c) (boolByte (c .redraw) ∷ []) (length-encoded c eight) (c .redraw)
       ∙ decoded-encoded c eight (c .redraw)
 
-  -- What a well-formed state encodes to holds a state.
-  pub encoded-holds : wellFormed c ≡ true → holdsState (encoded c) ≡ true
-  encoded-holds ok =
-      and-both
+  -- What a state encodes to holds a state exactly where the state is well-formed, and so does its block.
+  pub encoded-holds : holdsState (encoded c) ≡ wellFormed c
+  encoded-holds =
+      ap₂ _&&_
       (ap₂ (λ (f a : ℕ). eqb f 1 || eqb f 0 && eqb a 0) (after c eight 3) (after c eight 4) ∙ flag-holds (c .waiting))
-      (ap wellFormed (decoded-encoded c eight true) ∙ mark-apart true c ∙ ok)
+      (ap wellFormed (decoded-encoded c eight true) ∙ mark-apart true c)
 
-  pub block-holds : wellFormed c ≡ true → holdsBlock (blockOf c) ≡ true
-  block-holds ok =
-      and-both (ap (λ (b : ℕ). leb b 1) (last-byte c eight) ∙ mark-small (c .redraw))
-      (holds-front (encoded c) (boolByte (c .redraw) ∷ []) (length-encoded c eight) ∙ encoded-holds ok)
+  pub block-holds : holdsBlock (blockOf c) ≡ wellFormed c
+  block-holds =
+      ap₂ _&&_ (ap (λ (b : ℕ). leb b 1) (last-byte c eight) ∙ mark-small (c .redraw))
+      (holds-front (encoded c) (boolByte (c .redraw) ∷ []) (length-encoded c eight) ∙ encoded-holds)
 
   pub length-block : length (blockOf c) ≡ 15
   length-block = length-append (encoded c) (boolByte (c .redraw) ∷ []) ∙ ap (λ (n : ℕ). n + 1) (length-encoded c eight)

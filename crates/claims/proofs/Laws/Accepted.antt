@@ -66,14 +66,14 @@ module _ (b : Bench) (call : Call) where
   full-leaves : Ready (b .chip) → (caller : Caller) → stepBy caller (calling fullDraw call) b .reply .refusal ≡ 0 → stepBy caller (calling fullDraw call) b .bench ≡ drawn (b .chip) (b .vram)
   full-leaves ready direct e = full-drawn b call (eq-eqb _ _ e)
   full-leaves ready (fromC own) e =
-      let same = by-op call b ready fullDraw in
+      let same = by-op call b (ready .fits) fullDraw in
       ap (λ (s : Step). s .bench) same ∙ full-drawn b call (eq-eqb _ _ (sym (ap (λ (s : Step). s .reply .refusal) same) ∙ e))
   full-leaves ready (fromC (other k wrong)) e = absurd (wrong-refused b call k wrong fullDraw e)
 
   refresh-leaves : Good b → (caller : Caller) → stepBy caller (calling refresh call) b .reply .refusal ≡ 0 → stepBy caller (calling refresh call) b .bench ≡ drawn (b .chip) (b .vram)
   refresh-leaves good direct e = refresh-drawn b call (eq-eqb _ _ e) good
   refresh-leaves good (fromC own) e =
-      let same = by-op call b (good .ready) refresh in
+      let same = by-op call b (good .ready .fits) refresh in
       ap (λ (s : Step). s .bench) same ∙ refresh-drawn b call (eq-eqb _ _ (sym (ap (λ (s : Step). s .reply .refusal) same) ∙ e)) good
   refresh-leaves good (fromC (other k wrong)) e = absurd (wrong-refused b call k wrong refresh e)
 

@@ -7,14 +7,15 @@ use mathlib.Core.Bool.{Bool, true, false, cond}
 use mathlib.Core.List.{List, [], _∷_, _++_}
 use lib.ListN.{length}
 use borrow.Author.Tests.{eq-eqb, eqb-true}
-use Rattle.chip.specs.Layout.{blockSize, blockOf, chipOf, blockTests}
+use Rattle.chip.specs.State.{Fits}
+use Rattle.chip.specs.Layout.{blockTest, blockSize, blockOf, chipOf, blockTests}
 use Rattle.chip.specs.Refusals.{Test, numberOf, isAccepted, refusalOf, ifAccepted, answered, resultOf, stateTest, sliceTest}
 use Rattle.chip.specs.declared.state.Chip.{Chip}
 use Rattle.chip.specs.declared.refusal.Answer.{Answer}
 use Rattle.chip.specs.declared.refusal.Refusal.{Refusal}
+use Rattle.chip.specs.declared.refusal.Refusal.the-variants.{IllFormed}
 use Rattle.chip.proofs.Laws.Layout.{chip-block, block-holds, length-block}
 use Rattle.birdcleft.specs.Calls.{FromC, through}
-use Rattle.claims.proofs.Laws.States.{Ready}
 use Rattle.claims.proofs.Laws.Tests.{passed-dropped}
 
 -- a call from C gave what the direct call gives
@@ -30,21 +31,21 @@ low e h = (omega arith, omega arith)
 high : {x n : ℕ} → x ≡ n * 256 → (x / 256 ≡ n) × (x % 256 ≡ 0)
 high e = (omega arith, omega arith)
 
-module _ {c : Chip} (ready : Ready c) where
+module _ {c : Chip} (fits : Fits c) where
   abbrev block : List ℕ
   block = blockOf c
 
   pub decodes : chipOf block ≡ c
-  decodes = chip-block c (ready .fits .eight)
+  decodes = chip-block c (fits .eight)
 
   fifteen : length block ≡ 15
-  fifteen = length-block c (ready .fits .eight)
+  fifteen = length-block c (fits .eight)
 
-  -- the block's tests pass, as the state's does
+  -- the block's tests decide as the state's does
   pub block-as-state : (ts ws : List Test) → refusalOf (ts ++ (blockTests block ++ ws)) ≡ refusalOf (ts ++ (stateTest c ∷ ws))
   block-as-state ts ws =
-      passed-dropped ts (blockTests block) ws (eq-eqb _ _ fifteen, (block-holds c (ready .fits .eight) (ready .well-formed), tt))
-      ∙ sym (passed-dropped ts (stateTest c ∷ []) ws (ready .well-formed, tt))
+      passed-dropped ts (sliceTest blockSize block ∷ []) (blockTest block ∷ ws) (eq-eqb _ _ fifteen, tt)
+      ∙ (λ i. refusalOf (ts ++ (record { refusal = IllFormed; passes = block-holds c (fits .eight) i } ∷ ws)))
 
   -- of the block only its length
   pub block-dropped : (ts ws : List Test) → refusalOf (ts ++ (sliceTest blockSize block ∷ ws)) ≡ refusalOf (ts ++ ws)

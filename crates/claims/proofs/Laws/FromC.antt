@@ -1,7 +1,7 @@
 -- From C, a call is the direct call.
 use Prim.Native.Nat.{ℕ, _%_, _<_}
 use native.Mathlib.Omega.{arith}
-use mathlib.Core.Path.{_≡_, refl, _∙_}
+use mathlib.Core.Path.{_≡_, refl, sym, _∙_}
 use mathlib.Core.Bool.{Bool, true, false, cond}
 use mathlib.Core.List.{List, [], _∷_}
 use lib.Dec.{leb, ltb, lit<}
@@ -9,7 +9,7 @@ use lib.ListN.{length, set, take, length-set}
 use lib.Seq.{length-take-le}
 use mir.Val.{boolByte}
 use borrow.Author.Tests.{eqb-true}
-use Rattle.chip.specs.State.{kept}
+use Rattle.chip.specs.State.{Fits, kept}
 use Rattle.chip.specs.Map.{mapSize}
 use Rattle.chip.specs.Ports.{controlBy, control, interruptOn}
 use Rattle.chip.specs.Layout.{blockSize, blockOf, blockTest, blockTests}
@@ -27,11 +27,12 @@ use Rattle.frame.proofs.Laws.Lines.{bit-small, count-le}
 use Rattle.snapshot.specs.Tests.{sizeTest, stateBytes}
 use Rattle.snapshot.specs.Calls as snapshot
 use Rattle.snapshot.proofs.Laws.Parts.{length-state}
+use Rattle.chip.specs.declared.refusal.Answer.{Answer}
+use Rattle.birdcleft.specs.Calls.{FromC}
 use Rattle.claims.specs.Bench.{Bench}
 use Rattle.claims.specs.Call.{Op, powerUp, controlWrite, dataWrite, dataRead as readData, statusRead as readStatus, endOfDisplay, interruptLine, reset, drawLine, fullDraw, refresh, readSnapshot, writeSnapshot, own, Call}
-use Rattle.claims.specs.Step.{back, lentBench, directly, throughC, stepDirect, stepFromC}
-use Rattle.claims.proofs.Laws.States.{Ready}
-use Rattle.claims.proofs.Laws.Blocks.{Same, block-as-state, block-dropped, through-same, list-same}
+use Rattle.claims.specs.Step.{back, reads, lentBench, directly, throughC, stepDirect, stepFromC}
+use Rattle.claims.proofs.Laws.Blocks.{Same, decodes, block-as-state, block-dropped, through-same, list-same}
 
 -- A control write leaves eight registers.
 record Eight (c : Chip) : Type 0 where
@@ -49,7 +50,7 @@ eight-control x vram c e = by (c .waiting)
     by (First a) = either-eight (leb 128 x) (record { is = length-set (c .registers) (x % 8) (kept (x % 8) a) ∙ e }) (either-eight (ltb x 64) (record { is = e }) (record { is = e }))
 
 module _ (call : Call) (b : Bench) where
-  module _ (ready : Ready (b .chip)) where
+  module _ (fits : Fits (b .chip)) where
     abbrev lends : Bench
     lends = lentBench call b
 
@@ -72,7 +73,7 @@ module _ (call : Call) (b : Bench) where
     notes = lends .notes
 
     eight : length r ≡ 8
-    eight = ready .fits .eight
+    eight = fits .eight
 
     abbrev Claim : Op → Type 0
     Claim op = stepFromC own call b (throughC op (blockOf c) lends) ≡ stepDirect call b (directly op lends)
@@ -94,28 +95,28 @@ module _ (call : Call) (b : Bench) where
 
     -- calls that test the state, or VRAM and state, and touch no list
     state-refusal : refusalOf (blockTests (blockOf c)) ≡ refusalOf (stateTest c ∷ [])
-    state-refusal = block-as-state ready [] []
+    state-refusal = block-as-state fits [] []
 
     vram-refusal : refusalOf (vramTest vram ∷ blockTests (blockOf c)) ≡ refusalOf (vramTest vram ∷ stateTest c ∷ [])
-    vram-refusal = block-as-state ready (vramTest vram ∷ []) []
+    vram-refusal = block-as-state fits (vramTest vram ∷ []) []
 
     power-up-refusal : refusalOf (vramTest vram ∷ sliceTest blockSize (blockOf c) ∷ []) ≡ chip.powerUpRefusal vram
-    power-up-refusal = block-dropped ready (vramTest vram ∷ []) []
+    power-up-refusal = block-dropped fits (vramTest vram ∷ []) []
 
     write-refusal : refusalOf (vramTest vram ∷ sliceTest mapSize map ∷ blockTests (blockOf c)) ≡ chip.dataWriteRefusal c vram map
-    write-refusal = block-as-state ready (vramTest vram ∷ sliceTest mapSize map ∷ []) []
+    write-refusal = block-as-state fits (vramTest vram ∷ sliceTest mapSize map ∷ []) []
 
     draw-refusal : refusalOf (vramTest vram ∷ sliceTest mapSize map ∷ sliceTest frameSize frame-lent ∷ sliceTest notesSize notes ∷ blockTests (blockOf c)) ≡ frame.drawRefusal c vram map frame-lent notes
-    draw-refusal = block-as-state ready (vramTest vram ∷ sliceTest mapSize map ∷ sliceTest frameSize frame-lent ∷ sliceTest notesSize notes ∷ []) []
+    draw-refusal = block-as-state fits (vramTest vram ∷ sliceTest mapSize map ∷ sliceTest frameSize frame-lent ∷ sliceTest notesSize notes ∷ []) []
 
     line-refusal : (line : List ℕ) (l : ℕ) → refusalOf (vramTest vram ∷ sliceTest scanline.lineSize line ∷ sliceTest blockSize (blockOf c) ∷ blockTest (blockOf c) ∷ lineTest l ∷ []) ≡ scanline.drawLineRefusal c vram line l
-    line-refusal line l = block-as-state ready (vramTest vram ∷ sliceTest scanline.lineSize line ∷ []) (lineTest l ∷ [])
+    line-refusal line l = block-as-state fits (vramTest vram ∷ sliceTest scanline.lineSize line ∷ []) (lineTest l ∷ [])
 
     read-refusal : (s : List ℕ) → refusalOf (sliceTest blockSize (blockOf c) ∷ snapshot.readTests vram s) ≡ snapshot.readRefusal vram s
-    read-refusal s = block-dropped ready [] (snapshot.readTests vram s)
+    read-refusal s = block-dropped fits [] (snapshot.readTests vram s)
 
     save-refusal : (s : List ℕ) → refusalOf (vramTest vram ∷ sizeTest s ∷ blockTests (blockOf c)) ≡ snapshot.writeRefusal c vram s
-    save-refusal s = block-as-state ready (vramTest vram ∷ sizeTest s ∷ []) []
+    save-refusal s = block-as-state fits (vramTest vram ∷ sizeTest s ∷ []) []
 
     read-eight : (s : List ℕ) → isAccepted (snapshot.readRefusal vram s) ≡ true → length (take 8 (stateBytes s)) ≡ 8
     read-eight s ok =
@@ -129,52 +130,60 @@ module _ (call : Call) (b : Bench) where
     line-small : boolByte (interruptOn c) < 256
     line-small = let most = bit-small (interruptOn c) in omega arith
 
+    -- a block that is only read holds the state that the direct call hands back
+    only-read : {t : FromC} {a : Answer} → Same t a → a .chip ≡ c → Same (reads (blockOf c) t) a
+    only-read same e = record { state = decodes fits ∙ sym e; refusal = same .refusal; value = same .value }
+
+    either : (a : Bool) → cond a c c ≡ c
+    either true = refl
+    either false = refl
+
     pub by-op : (op : Op) → Claim op
     by-op powerUp =
-        same-step powerUp (through-same ready _ power-up-refusal _ _ _ refl (λ ok. refl) (lit< tt))
-        (list-same ready _ power-up-refusal (λ s. chip.powerUpVram vram) _ _ refl) refl refl refl refl
+        same-step powerUp (through-same fits _ power-up-refusal _ _ _ refl (λ ok. refl) (lit< tt))
+        (list-same fits _ power-up-refusal (λ s. chip.powerUpVram vram) _ _ refl) refl refl refl refl
     by-op (controlWrite x) =
-        same-step (controlWrite x) (through-same ready _ vram-refusal _ _ _ refl (λ ok. eight-control x vram c eight .is) (lit< tt))
+        same-step (controlWrite x) (through-same fits _ vram-refusal _ _ _ refl (λ ok. eight-control x vram c eight .is) (lit< tt))
         refl refl refl refl refl
     by-op (dataWrite x) =
-        same-step (dataWrite x) (through-same ready _ write-refusal _ _ _ refl (λ ok. eight) (lit< tt))
-        (list-same ready _ write-refusal (λ s. chip.dataWriteVram s vram map x) _ _ refl)
-        (list-same ready _ write-refusal (λ s. chip.dataWriteMap s vram map) _ _ refl)
+        same-step (dataWrite x) (through-same fits _ write-refusal _ _ _ refl (λ ok. eight) (lit< tt))
+        (list-same fits _ write-refusal (λ s. chip.dataWriteVram s vram map x) _ _ refl)
+        (list-same fits _ write-refusal (λ s. chip.dataWriteMap s vram map) _ _ refl)
         refl refl refl
     by-op readData =
-        same-step readData (through-same ready _ vram-refusal _ _ _ refl (λ ok. eight) (ready .fits .buffer))
+        same-step readData (through-same fits _ vram-refusal _ _ _ refl (λ ok. eight) (fits .buffer))
         refl refl refl refl refl
     by-op readStatus =
-        same-step readStatus (through-same ready _ state-refusal _ _ _ refl (λ ok. eight) (ready .fits .status))
+        same-step readStatus (through-same fits _ state-refusal _ _ _ refl (λ ok. eight) (fits .status))
         refl refl refl refl refl
     by-op endOfDisplay =
-        same-step endOfDisplay (through-same ready _ state-refusal _ _ _ refl (λ ok. eight) (lit< tt)) refl refl refl refl refl
+        same-step endOfDisplay (through-same fits _ state-refusal _ _ _ refl (λ ok. eight) (lit< tt)) refl refl refl refl refl
     by-op interruptLine =
-        same-step interruptLine (through-same ready _ state-refusal _ _ _ refl (λ ok. eight) line-small) refl refl refl refl refl
+        same-step interruptLine (only-read (through-same fits _ state-refusal _ _ _ refl (λ ok. eight) line-small) (either (isAccepted (refusalOf (stateTest c ∷ []))))) refl refl refl refl refl
     by-op reset =
-        same-step reset (through-same ready _ state-refusal _ _ _ refl (λ ok. length-set (set r 0 0) 1 0 ∙ length-set r 0 0 ∙ eight) (lit< tt)) refl refl refl refl refl
+        same-step reset (through-same fits _ state-refusal _ _ _ refl (λ ok. length-set (set r 0 0) 1 0 ∙ length-set r 0 0 ∙ eight) (lit< tt)) refl refl refl refl refl
     by-op (drawLine line l) =
-        same-step (drawLine line l) (through-same ready _ (line-refusal line l) _ _ _ refl (λ ok. eight) (lit< tt))
+        same-step (drawLine line l) (through-same fits _ (line-refusal line l) _ _ _ refl (λ ok. eight) (lit< tt))
         refl refl refl refl
-        (list-same ready _ (line-refusal line l) (λ s. scanline.drawLineLine s vram line l) _ _ refl)
+        (list-same fits _ (line-refusal line l) (λ s. scanline.drawLineLine s vram line l) _ _ refl)
     by-op fullDraw =
-        same-step fullDraw (through-same ready _ draw-refusal _ _ _ refl (λ ok. eight) (lit< tt))
+        same-step fullDraw (through-same fits _ draw-refusal _ _ _ refl (λ ok. eight) (lit< tt))
         refl
-        (list-same ready _ draw-refusal (λ s. frame.drawMap s vram map frame-lent notes) _ _ refl)
-        (list-same ready _ draw-refusal (λ s. frame.fullDrawFrame s vram map frame-lent notes) _ _ refl)
-        (list-same ready _ draw-refusal (λ s. frame.fullDrawNotes s vram map frame-lent notes) _ _ refl)
+        (list-same fits _ draw-refusal (λ s. frame.drawMap s vram map frame-lent notes) _ _ refl)
+        (list-same fits _ draw-refusal (λ s. frame.fullDrawFrame s vram map frame-lent notes) _ _ refl)
+        (list-same fits _ draw-refusal (λ s. frame.fullDrawNotes s vram map frame-lent notes) _ _ refl)
         refl
     by-op refresh =
-        same-step refresh (through-same ready _ draw-refusal _ _ _ refl (λ ok. eight) count-small)
+        same-step refresh (through-same fits _ draw-refusal _ _ _ refl (λ ok. eight) count-small)
         refl
-        (list-same ready _ draw-refusal (λ s. frame.drawMap s vram map frame-lent notes) _ _ refl)
-        (list-same ready _ draw-refusal (λ s. frame.refreshFrame s vram map frame-lent notes) _ _ refl)
-        (list-same ready _ draw-refusal (λ s. frame.refreshNotes s vram map frame-lent notes) _ _ refl)
+        (list-same fits _ draw-refusal (λ s. frame.drawMap s vram map frame-lent notes) _ _ refl)
+        (list-same fits _ draw-refusal (λ s. frame.refreshFrame s vram map frame-lent notes) _ _ refl)
+        (list-same fits _ draw-refusal (λ s. frame.refreshNotes s vram map frame-lent notes) _ _ refl)
         refl
     by-op (readSnapshot s) =
-        same-step (readSnapshot s) (through-same ready _ (read-refusal s) _ _ _ refl (read-eight s) (lit< tt))
-        (list-same ready _ (read-refusal s) (λ k. snapshot.readVram vram s) _ _ refl) refl refl refl refl
+        same-step (readSnapshot s) (through-same fits _ (read-refusal s) _ _ _ refl (read-eight s) (lit< tt))
+        (list-same fits _ (read-refusal s) (λ k. snapshot.readVram vram s) _ _ refl) refl refl refl refl
     by-op (writeSnapshot s) =
-        same-step (writeSnapshot s) (through-same ready _ (save-refusal s) _ _ _ refl (λ ok. eight) (lit< tt))
+        same-step (writeSnapshot s) (only-read (through-same fits _ (save-refusal s) _ _ _ refl (λ ok. eight) (lit< tt)) (either (isAccepted (snapshot.writeRefusal c vram s))))
         refl refl refl refl
-        (list-same ready _ (save-refusal s) (λ k. snapshot.written k vram s) _ _ refl)
+        (list-same fits _ (save-refusal s) (λ k. snapshot.written k vram s) _ _ refl)

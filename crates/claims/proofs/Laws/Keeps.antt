@@ -15,7 +15,7 @@ step-keeps {b} good call bytes = by (call .caller)
   where
     by : (caller : Caller) → Good (stepBy caller call b .bench)
     by direct = direct-keeps good call (call .op) bytes
-    by (fromC own) = subst⁻¹ (λ (s : Step). Good (s .bench)) (by-op call b (good .ready) (call .op)) (direct-keeps good call (call .op) bytes)
+    by (fromC own) = subst⁻¹ (λ (s : Step). Good (s .bench)) (by-op call b (good .ready .fits) (call .op)) (direct-keeps good call (call .op) bytes)
     by (fromC (other k wrong)) = subst⁻¹ Good (wrong-leaves b call k wrong (call .op)) good
 
 pub run-keeps : {b : Bench} → Good b → (calls : List Call) → CallsBytes calls → Good (run b calls)

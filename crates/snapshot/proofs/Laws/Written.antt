@@ -67,5 +67,5 @@ module _ (c : Chip) (eight : length (c .registers) ≡ 8) (vram : List ℕ) (lon
         whole = length-snapshot;
         points = points;
         total = sums;
-        holds = ap holdsState state-back ∙ encoded-holds c eight ok;
+        holds = ap holdsState state-back ∙ encoded-holds c eight ∙ ok;
       }
