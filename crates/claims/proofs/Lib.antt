@@ -1,5 +1,7 @@
+-- The theorems. Laws are what they rest on.
 pub mod Cases
-pub mod Laws
 pub mod Demand3
 pub mod AfterAnyCalls
 pub mod RefusedCalls
+pub mod AnyBlock
+pub mod Laws

@@ -1,6 +1,6 @@
 -- Refused calls, and calls from C.
 use Prim.Native.Nat.{ℕ}
-use mathlib.Core.Path.{_≡_, refl, sym, ap, _∙_}
+use mathlib.Core.Path.{_≡_, refl, sym, ap, subst⁻¹, _∙_}
 use mathlib.Core.Bool.{Bool, true, false, _||_, _&&_}
 use mathlib.Core.List.{List, [], _∷_}
 use lib.Dec.{eqb}
@@ -17,10 +17,11 @@ use Rattle.claims.specs.Bench.{Bench}
 use Rattle.claims.specs.Call.{Op, powerUp, controlWrite, dataWrite, dataRead, statusRead, endOfDisplay, interruptLine, reset, drawLine, fullDraw, refresh, readSnapshot, writeSnapshot, Lent, own, other, Caller, direct, fromC, Call}
 use Rattle.claims.specs.Refusals.{takesVram, takesMap, takesFrame, isOther, otherBlock, wronglyLent}
 use Rattle.claims.specs.Step.{lent, lentBench, directly, Step, stepBy, step}
+use Rattle.claims.specs.After.{LeftAsLent}
 use Rattle.claims.proofs.Laws.Draws.{drawTests, passed}
-use Rattle.claims.proofs.Laws.Refused.{direct-refused}
+use Rattle.claims.proofs.Laws.Refused.{direct-refused, direct-replies}
 use Rattle.claims.proofs.Laws.FromC.{by-op}
-use Rattle.claims.proofs.Laws.Wrong.{wrong-refused, wrong-leaves}
+use Rattle.claims.proofs.Laws.Wrong.{wrong-refused, wrong-leaves, wrong-replies}
 
 -- From C a call is the direct call: on every state that fits its types, well-formed or not, and lent whatever lists, a call
 -- from C with the state's own block leaves the same bench and gives the same answer as the same call made directly.
@@ -28,19 +29,22 @@ pub from-c : (b : Bench) → Fits (b .chip) → (call : Call) → call .caller �
 unfolding step
 from-c b fits call is = ap (λ (k : Caller). stepBy k call b) is ∙ by-op call b fits (call .op)
 
--- A refused call leaves the bench as it was: whatever was lent, on every well-formed state that fits its types.
-pub refused-leaves : (b : Bench) → Fits (b .chip) → (call : Call) → (step b call .reply .refusal ≡ 0 → ⊥) → step b call .bench ≡ b
+-- A refused call leaves the bench as it was, answers no number and leaves the slice that is its own: on every state that fits
+-- its types, well-formed or not, and whatever was lent.
+pub refused-leaves : (b : Bench) → Fits (b .chip) → (call : Call) → (step b call .reply .refusal ≡ 0 → ⊥) → LeftAsLent b call (step b call)
 unfolding step
 refused-leaves b fits call = by (call .caller)
   where
-    same : stepBy (fromC own) call b ≡ stepBy direct call b
-    same = by-op call b fits (call .op)
+    directly-refused : isAccepted (directly (call .op) (lentBench call b) .answer .refusal) ≡ false → LeftAsLent b call (stepBy direct call b)
+    directly-refused e = let replies = direct-replies b call (call .op) e in (direct-refused b call (call .op) e, replies .0, replies .1)
 
-    by : (k : Caller) → (stepBy k call b .reply .refusal ≡ 0 → ⊥) → stepBy k call b .bench ≡ b
-    by direct refused = direct-refused b call (call .op) (ne-eqb _ _ refused)
+    by : (k : Caller) → (stepBy k call b .reply .refusal ≡ 0 → ⊥) → LeftAsLent b call (stepBy k call b)
+    by direct refused = directly-refused (ne-eqb _ _ refused)
     by (fromC own) refused =
-        ap (λ (s : Step). s .bench) same ∙ direct-refused b call (call .op) (ne-eqb _ _ (λ z. refused (ap (λ (s : Step). s .reply .refusal) same ∙ z)))
-    by (fromC (other k wrong)) refused = wrong-leaves b call k wrong (call .op)
+        let same = by-op call b fits (call .op) in
+        subst⁻¹ (LeftAsLent b call) same (directly-refused (ne-eqb _ _ (λ z. refused (ap (λ (s : Step). s .reply .refusal) same ∙ z))))
+    by (fromC (other k wrong)) refused =
+        let replies = wrong-replies b call k wrong (call .op) in (wrong-leaves b call k wrong (call .op), replies .0, replies .1)
 
 -- what passed a test of its length was not replaced
 module _ {n : ℕ} where
@@ -90,8 +94,8 @@ module _ (b : Bench) (call : Call) where
 
 -- A call that was lent a list of the wrong length in place of one that it takes, or a wrong block, is refused, and the next
 -- call finds the bench as it was. (A list that the call does not take is not looked at.) `step` does not say so: it
--- applies the call's definition to what was lent.
-pub wrongly-lent : (b : Bench) → Fits (b .chip) → (call : Call) → wronglyLent call ≡ true → (step b call .reply .refusal ≡ 0 → ⊥) × (step b call .bench ≡ b)
+-- applies the call's definition to what was lent. That the list lent in its place is left too, the call's contract says.
+pub wrongly-lent : (b : Bench) → Fits (b .chip) → (call : Call) → wronglyLent call ≡ true → (step b call .reply .refusal ≡ 0 → ⊥) × LeftAsLent b call (step b call)
 unfolding step
 wrongly-lent b fits call wrong = (refused, refused-leaves b fits call refused)
   where

@@ -24,7 +24,23 @@ ownTests refresh = []
 ownTests (readSnapshot s) = sizeTest s ∷ trailerTest s ∷ sumTest s ∷ contentsTest s ∷ []
 ownTests (writeSnapshot s) = sizeTest s ∷ []
 
--- Which of the bench's lists a call is lent.
+-- The slice that the call is to fill, if it has one.
+abbrev pub ownSlice : Op → List ℕ
+ownSlice powerUp = []
+ownSlice (controlWrite x) = []
+ownSlice (dataWrite x) = []
+ownSlice dataRead = []
+ownSlice statusRead = []
+ownSlice endOfDisplay = []
+ownSlice interruptLine = []
+ownSlice reset = []
+ownSlice (drawLine line l) = line
+ownSlice fullDraw = []
+ownSlice refresh = []
+ownSlice (readSnapshot s) = []
+ownSlice (writeSnapshot s) = s
+
+-- Which of the bench's lists a call is lent: VRAM,
 abbrev pub takesVram : Op → Bool
 takesVram powerUp = true
 takesVram (controlWrite x) = true
@@ -40,6 +56,7 @@ takesVram refresh = true
 takesVram (readSnapshot s) = true
 takesVram (writeSnapshot s) = true
 
+-- frame and notes,
 abbrev pub takesFrame : Op → Bool
 takesFrame powerUp = false
 takesFrame (controlWrite x) = false
@@ -55,7 +72,7 @@ takesFrame refresh = true
 takesFrame (readSnapshot s) = false
 takesFrame (writeSnapshot s) = false
 
--- The map goes to a data write, and wherever frame and notes go.
+-- and the map.
 abbrev pub takesMap : Op → Bool
 takesMap powerUp = false
 takesMap (controlWrite x) = false
@@ -88,7 +105,8 @@ wronglyLent call =
     || takesMap (call .op) && isOther (call .map)
     || takesFrame (call .op) && (isOther (call .frame) || isOther (call .notes))
 
--- The calls after which a bench is in order, whatever state it was in: power-up, a snapshot of bytes read, a full draw.
+-- The calls that, once accepted, leave a well-formed state on a bench of which nothing is known: power-up, reading a
+-- snapshot of bytes, a full draw.
 abbrev pub Opens : Op → Type 0
 Opens powerUp = Unit {0}
 Opens (controlWrite x) = ⊥

@@ -7,6 +7,7 @@ use Rattle.chip.specs.Refusals.{isAccepted}
 use Rattle.chip.specs.declared.state.Chip.{Chip}
 use Rattle.claims.specs.Bench.{Bench}
 use Rattle.claims.specs.Call.{Op, powerUp, controlWrite, dataWrite, dataRead, statusRead, endOfDisplay, interruptLine, reset, drawLine, fullDraw, refresh, readSnapshot, writeSnapshot, Call}
+use Rattle.claims.specs.Refusals.{ownSlice}
 use Rattle.claims.specs.Step.{lent, back, lentBench, benchBack, directly}
 use Rattle.claims.proofs.Laws.Good.{bench}
 use Rattle.claims.proofs.Laws.Lent.{back-same}
@@ -38,3 +39,19 @@ module _ (b : Bench) (call : Call) where
   direct-refused refresh e = unmoved (the-old _ e) refl (the-old _ e) (the-old _ e) (the-old _ e)
   direct-refused (readSnapshot s) e = unmoved (the-old _ e) (the-old _ e) refl refl refl
   direct-refused (writeSnapshot s) e = unmoved (the-old _ e) refl refl refl refl
+
+  -- It answers no number, and leaves its own slice.
+  pub direct-replies : (op : Op) → let left = directly op (lentBench call b) in isAccepted (left .answer .refusal) ≡ false → (left .answer .value ≡ 0) × (left .slice ≡ ownSlice op)
+  direct-replies powerUp e = (the-old _ e, refl)
+  direct-replies (controlWrite x) e = (the-old _ e, refl)
+  direct-replies (dataWrite x) e = (the-old _ e, refl)
+  direct-replies dataRead e = (the-old _ e, refl)
+  direct-replies statusRead e = (the-old _ e, refl)
+  direct-replies endOfDisplay e = (the-old _ e, refl)
+  direct-replies interruptLine e = (the-old _ e, refl)
+  direct-replies reset e = (the-old _ e, refl)
+  direct-replies (drawLine line l) e = (the-old _ e, the-old _ e)
+  direct-replies fullDraw e = (the-old _ e, refl)
+  direct-replies refresh e = (the-old _ e, refl)
+  direct-replies (readSnapshot s) e = (the-old _ e, refl)
+  direct-replies (writeSnapshot s) e = (the-old _ e, the-old _ e)

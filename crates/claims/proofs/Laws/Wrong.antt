@@ -1,5 +1,5 @@
 -- From C with a block of the wrong length every call is refused, and leaves the bench as it was.
-use Prim.Native.Nat.{ℕ, _*_, _/_}
+use Prim.Native.Nat.{ℕ, _*_, _/_, _%_}
 use native.Mathlib.Omega.{arith}
 use mathlib.Core.Path.{_≡_, refl}
 use mathlib.Core.Bool.{Bool, true, false, cond}
@@ -21,6 +21,7 @@ use Rattle.snapshot.specs.Calls as snapshot
 use Rattle.birdcleft.specs.Calls.{through}
 use Rattle.claims.specs.Bench.{Bench}
 use Rattle.claims.specs.Call.{Op, powerUp, controlWrite, dataWrite, dataRead, statusRead, endOfDisplay, interruptLine, reset, drawLine, fullDraw, refresh, readSnapshot, writeSnapshot, other, Call}
+use Rattle.claims.specs.Refusals.{ownSlice}
 use Rattle.claims.specs.Step.{lentBench, throughC, stepFromC}
 use Rattle.claims.proofs.Laws.Refused.{the-old, unmoved}
 
@@ -33,12 +34,19 @@ not-accepted ts refuse fails = by (isAccepted (refusalOf ts)) refl
     by false e = e
 
 -- from C it then gives its number
-pub refused-number : (r : Refusal) (block : List ℕ) (method : Chip → Answer) → isAccepted r ≡ false → through r block method .result / 256 ≡ 0 → ⊥
+refused-total : (r : Refusal) (block : List ℕ) (method : Chip → Answer) → isAccepted r ≡ false → through r block method .result ≡ numberOf r * 256
 unfolding through
+refused-total r block method e = λ i. cond (e i) (resultOf (method (chipOf block))) (numberOf r * 256)
+
+pub refused-number : (r : Refusal) (block : List ℕ) (method : Chip → Answer) → isAccepted r ≡ false → through r block method .result / 256 ≡ 0 → ⊥
 refused-number r block method e zero =
-    let total : through r block method .result ≡ numberOf r * 256 = λ i. cond (e i) (resultOf (method (chipOf block))) (numberOf r * 256) in
+    let total = refused-total r block method e in
     let some = eqb-false (numberOf r) 0 e in
     some (omega arith)
+
+-- and no number read
+no-value : (r : Refusal) (block : List ℕ) (method : Chip → Answer) → isAccepted r ≡ false → through r block method .result % 256 ≡ 0
+no-value r block method e = let total = refused-total r block method e in omega arith
 
 module _ (b : Bench) (call : Call) (k : List ℕ) (wrong : length k ≡ 15 → ⊥) where
   abbrev lends : Bench
@@ -107,3 +115,18 @@ module _ (b : Bench) (call : Call) (k : List ℕ) (wrong : length k ≡ 15 → �
   wrong-leaves refresh = unmoved b call refl refl (the-old _ (refused refresh)) (the-old _ (refused refresh)) (the-old _ (refused refresh))
   wrong-leaves (readSnapshot s) = unmoved b call refl (the-old _ (refused (readSnapshot s))) refl refl refl
   wrong-leaves (writeSnapshot s) = unmoved b call refl refl refl refl refl
+
+  pub wrong-replies : (op : Op) → let t = stepFromC (other k wrong) call b (throughC op k lends) in (t .reply .value ≡ 0) × (t .reply .slice ≡ ownSlice op)
+  wrong-replies powerUp = (no-value _ k _ (refused powerUp), refl)
+  wrong-replies (controlWrite x) = (no-value _ k _ (refused (controlWrite x)), refl)
+  wrong-replies (dataWrite x) = (no-value _ k _ (refused (dataWrite x)), refl)
+  wrong-replies dataRead = (no-value _ k _ (refused dataRead), refl)
+  wrong-replies statusRead = (no-value _ k _ (refused statusRead), refl)
+  wrong-replies endOfDisplay = (no-value _ k _ (refused endOfDisplay), refl)
+  wrong-replies interruptLine = (no-value _ k _ (refused interruptLine), refl)
+  wrong-replies reset = (no-value _ k _ (refused reset), refl)
+  wrong-replies (drawLine line l) = (no-value _ k _ (refused (drawLine line l)), the-old _ (refused (drawLine line l)))
+  wrong-replies fullDraw = (no-value _ k _ (refused fullDraw), refl)
+  wrong-replies refresh = (no-value _ k _ (refused refresh), refl)
+  wrong-replies (readSnapshot s) = (no-value _ k _ (refused (readSnapshot s)), refl)
+  wrong-replies (writeSnapshot s) = (no-value _ k _ (refused (writeSnapshot s)), the-old _ (refused (writeSnapshot s)))
