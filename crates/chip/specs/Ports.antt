@@ -56,11 +56,11 @@ statusRead c = withWaiting Nothing (withStatus (c .status % 32) c)
 abbrev pub displayEnded : Chip → Chip
 displayEnded c = withStatus (setBit 7 (c .status)) c
 
--- The interrupt line is on exactly when F and register 1's hex 20 are on.
+-- The interrupt line: F (status bit 7) while interrupts are enabled (register 1, bit 5).
 abbrev pub interruptOn : Chip → Bool
 interruptOn c = bit 7 (c .status) && bit 5 (register 1 (c .registers))
 
--- Reset clears registers 0 and 1, status and the waiting byte, and sets the redraw mark. The rest stays.
+-- After reset registers 0 and 1 and status are zero, nothing waits and the redraw mark is set. VRAM, map and the rest stay.
 abbrev pub wasReset : Chip → Chip
 wasReset c = withRedraw true (withWaiting Nothing (withStatus 0 (withRegisters (set (set (c .registers) 0 0) 1 0) c)))
 

@@ -24,7 +24,7 @@ numberOf Checksum = 7
 abbrev pub isAccepted : Refusal → Bool
 isAccepted r = eqb (numberOf r) 0
 
--- Tests run in the order 1, 2, 5, 6, 7, 3, 4.
+-- Which refusal a call gives if several tests fail: the earliest in this list.
 abbrev pub order : List Refusal
 order = VramLength ∷ SliceLength ∷ SnapshotLength ∷ Trailer ∷ Checksum ∷ IllFormed ∷ LineNumber ∷ []
 

@@ -22,7 +22,7 @@ use Rattle.claims.proofs.Laws.FromC.{by-op}
 use Rattle.claims.proofs.Laws.Keeps.{run-keeps}
 use Rattle.claims.proofs.Laws.Opens.{opens}
 
--- Of a bench in order the tests of state and lists pass, so that what is the call's own decides.
+-- The tests of state and lists pass, so that those of what is the call's own decide.
 module _ (b : Bench) (ready : Ready (b .chip)) (lengths : Lengths b) where
   abbrev v : Test
   v = vramTest (b .vram)

@@ -139,7 +139,8 @@ module _ {A : Type 0} where
         notes = back (call .notes) (left .notes) (b .notes);
       }
 
--- The answer: refusal number, number read, and the slice that is the call's own. A caller in C takes its one number apart.
+-- The answer: refusal number, number read, and the slice that is the call's own. From C the one result holds both numbers:
+-- divided by 256 it gives the first, and the remainder is the second.
 pub record Reply : Type 0 where
   pub refusal : ℕ
   pub value : ℕ

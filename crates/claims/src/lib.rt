@@ -1,1 +1,1 @@
-// Definitions and theorems alone: no code stands here. specs/ has the statements, proofs/ the proofs.
+// Definitions and theorems alone: no code stands here. specs/ has the definitions; the theorems stand in proofs/, each with its words above it.

@@ -32,7 +32,7 @@ full-accepted c vram map frame notes ok v m f n =
     all-accepted (vramTest vram ∷ sliceTest 2048 map ∷ sliceTest 49152 frame ∷ sliceTest 192 notes ∷ stateTest c ∷ [])
     (eq-eqb _ _ v, (eq-eqb _ _ m, (eq-eqb _ _ f, (eq-eqb _ _ n, (ok, tt)))))
 
--- the state whose status has followed the notes of lines 0 to n - 1
+-- the state with its status updated by the notes of lines 0 to n - 1
 abbrev after : List ℕ → Chip → ℕ → Chip
 after vram c n = withStatus (statusThrough (c .status) (tabulate n (noteAt (c .registers) vram))) c
 
@@ -72,8 +72,8 @@ module _ (vram : List ℕ) (slices : ℕ → List ℕ) (full : length vram ≡ 1
 -- they hold. Beside a full draw, draw lines 0 to 191 in order by the call that draws a line, each from the state that the
 -- draw before handed back, each into any slice of 256 bytes: one slice lent again and again, parts of a frame, or others.
 -- Then the full draw is accepted, and so is every line draw; the frame is what the line draws left in their slices, end to
--- end; and the state is the one that the last line draw handed back, with the redraw mark cleared. Its status has followed
--- the notes that the full draw wrote, in order.
+-- end; and the state is the one that the last line draw handed back, with the redraw mark cleared. Its status is
+-- the one before, updated by the notes that the full draw wrote, in order.
 pub full-draw-is-line-draws : (c : Chip) → wellFormed c ≡ true
     → (vram : List ℕ) → length vram ≡ 16384
     → (map frame notes : List ℕ) → length map ≡ 2048 → length frame ≡ 49152 → length notes ≡ 192

@@ -28,7 +28,7 @@ fullDrawNotes c vram map frame notes = ifAccepted (drawRefusal c vram map frame 
 abbrev pub drawMap : Chip → List ℕ → List ℕ → List ℕ → List ℕ → List ℕ
 drawMap c vram map frame notes = ifAccepted (drawRefusal c vram map frame notes) clearMap map
 
--- Refresh answers how many lines it redrew. Status follows all 192 notes as they then stand.
+-- Refresh answers how many lines it redrew. Status is updated by all 192 notes, the kept ones too.
 abbrev pub refresh : Chip → List ℕ → List ℕ → List ℕ → List ℕ → Answer
 refresh c vram map frame notes =
     answered (drawRefusal c vram map frame notes) c

@@ -19,7 +19,7 @@ frameOf r vram = endToEnd lineCount (colours r vram)
 abbrev pub notesOf : List ℕ → List ℕ → List ℕ
 notesOf r vram = tabulate lineCount (noteAt r vram)
 
--- Status follows the notes, in order.
+-- Status updated by each note, in order.
 unfoldable pub statusThrough : ℕ → List ℕ → ℕ
 statusThrough s [] = s
 statusThrough s (n ∷ l) = statusThrough (statusAfter s n) l
@@ -28,6 +28,6 @@ statusThrough s (n ∷ l) = statusThrough (statusAfter s n) l
 abbrev pub clearMap : List ℕ
 clearMap = replicate mapSize 0
 
--- The state after a draw with these notes: status follows them, and the redraw mark is cleared.
+-- The state after a draw with these notes: status is updated by them, and the redraw mark is cleared.
 abbrev pub drawnState : Chip → List ℕ → Chip
 drawnState c notes = withRedraw false (withStatus (statusThrough (c .status) notes) c)

@@ -9,11 +9,11 @@ use Rattle.scanline.specs.Line.{lineOf}
 use Rattle.scanline.specs.Calls.{noteAt, colours}
 use Rattle.frame.specs.Lines.{lineCount, endToEnd, lineAt, countBelow}
 
--- A line is due when the redraw mark is set, or the map has the bit of one of the line's fetches.
+-- Whether line l has to be redrawn: always while the redraw mark is set, otherwise if a byte that it fetches is dirty.
 unfoldable pub due : Bool → List ℕ → List ℕ → List ℕ → ℕ → Bool
 due mark r vram map l = mark || anyMarked map (fetched (lineOf r l) vram)
 
--- A due line's 256 bytes and note become those of a full draw; every other line keeps both.
+-- Line l of the frame after a refresh, and its note: drawn anew if due, as lent if not.
 abbrev pub newLine : Bool → List ℕ → List ℕ → List ℕ → List ℕ → ℕ → List ℕ
 newLine mark r vram map frame l = cond (due mark r vram map l) (colours r vram l) (lineAt frame l)
 
@@ -26,6 +26,6 @@ newFrame mark r vram map frame = endToEnd lineCount (newLine mark r vram map fra
 abbrev pub newNotes : Bool → List ℕ → List ℕ → List ℕ → List ℕ → List ℕ
 newNotes mark r vram map notes = tabulate lineCount (newNote mark r vram map notes)
 
--- How many of the 192 lines are due.
+-- What a refresh reports: the count of due lines among the 192.
 abbrev pub dueCount : Bool → List ℕ → List ℕ → List ℕ → ℕ
 dueCount mark r vram map = countBelow lineCount (due mark r vram map)

@@ -1,4 +1,4 @@
--- "Full draw, notes and refresh".
+-- Drawing a whole frame, and refreshing one.
 pub mod Lines
 pub mod Draw
 pub mod Due

@@ -35,7 +35,7 @@ fn tested(chip: Chip, vram: &[u8], map: &[u8], frame: &[u8], notes: &[u8]) -> Re
     Refusal::Accepted
 }
 
-// Redraws what is due with this redraw mark, lets status follow all notes, and clears map and mark. Answers the count.
+// Redraws what is due with this redraw mark, updates status by all notes, and clears map and mark. Answers the count.
 fn draw_due(
     chip: Chip,
     mark: bool,
@@ -59,7 +59,7 @@ fn draw_due(
     next.accepted(redrawn)
 }
 
-// Draws lines 0 to 191 into the frame, writes their notes, updates status, and clears map and redraw mark.
+// Draws every line into the frame, whatever it held; notes, status, map and redraw mark are then those of a fresh draw.
 pub fn full_draw(
     chip: Chip,
     vram: &[u8],

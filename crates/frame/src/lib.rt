@@ -1,4 +1,4 @@
-// Full draw and refresh: 192 lines into a lent frame, their notes, and the status that follows them.
+// Full draw and refresh: 192 lines into a lent frame, their notes, and status updated by them.
 mod calls;
 mod lines;
 mod status;

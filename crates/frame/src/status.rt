@@ -1,4 +1,4 @@
-// Status follows the notes of all lines, in order.
+// Status updated by the notes of all lines, in order.
 ghost use mathlib.Core.Path.{_≡_};
 ghost use Rattle.frame.specs.Draw.{statusThrough};
 use scanline::status_after;

@@ -24,7 +24,7 @@ colours r vram l = coloursOf r (value (lineOf r l) vram)
 abbrev pub drawLineRefusal : Chip → List ℕ → List ℕ → ℕ → Refusal
 drawLineRefusal c vram line l = refusalOf (vramTest vram ∷ sliceTest lineSize line ∷ stateTest c ∷ lineTest l ∷ [])
 
--- Status follows the line's note, and nothing else of the state changes.
+-- The line's note updates status, and nothing else of the state changes.
 abbrev pub drawLine : Chip → List ℕ → List ℕ → ℕ → Answer
 drawLine c vram line l = answered (drawLineRefusal c vram line l) c (withStatus (statusAfter (c .status) (noteAt (c .registers) vram l)) c) 0
 

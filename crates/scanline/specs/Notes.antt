@@ -1,4 +1,4 @@
--- A line's note, and how status follows it.
+-- A line's note, and status after it.
 use Prim.Native.Nat.{ℕ, _+_, _*_, _/_, _%_}
 use mathlib.Core.Bool.{Bool, cond, not, _&&_}
 use mathlib.Core.List.{List}
@@ -8,18 +8,18 @@ use Rattle.sprites.specs.Scan.{fifthOf}
 use Rattle.sprites.specs.Pixels.{coincidence}
 use Rattle.scanline.specs.Line.{Row}
 
--- A note is the fifth sprite's number, or 32 if there is none, plus 64 if the line has coincidence.
+-- The note's low six bits number the fifth sprite, with 32 for none; bit 6 tells of coincidence.
 abbrev pub noteBy : ℕ → Bool → ℕ
 noteBy fifth met = fifth + cond met 64 0
 
 unfoldable pub noteOf : List ℕ → Row → ℕ
 noteOf r row = noteBy (fifthOf (row .found .ended)) (coincidence r (row .found .sprites))
 
--- A fifth sprite sets 5S (hex 40) and puts its number into the low five bits exactly when 5S and F (80) are both clear.
+-- The number of a fifth sprite is latched, and 5S (hex 40) set, unless 5S or F (80) is on already.
 abbrev pub latched : ℕ → ℕ → ℕ
 latched s n = cond (not (bit 6 s) && not (bit 7 s)) (setBit 6 (s / 32 * 32 + n)) s
 
--- Read back, a note mod 64 of 32 or more means no fifth sprite, and the bit of 64 is coincidence.
+-- Any byte can be read back as a note: low six bits below 32 are the number of a fifth sprite, others mean none.
 abbrev pub withFifth : ℕ → ℕ → ℕ
 withFifth s note = cond (ltb (note % 64) 32) (latched s (note % 64)) s
 

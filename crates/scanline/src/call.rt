@@ -7,7 +7,7 @@ use chip::Answer;
 use chip::Chip;
 use chip::Refusal;
 
-// Draws one line into a lent slice. Status follows the line's note.
+// Draws one line into a lent slice. The line's note updates status.
 pub fn draw_line(chip: Chip, vram: &[u8], line: &mut [u8], number: u32) -> Answer
     ensures { λ r. ⌜ r ≡ calls.drawLine chip (now (vram .entry)) (now (line .entry)) number ⌝ }
     ensures { λ _. ⌜ now (line .exit) ≡ calls.drawLineLine chip (now (vram .entry)) (now (line .entry)) number ⌝ }

@@ -1,4 +1,4 @@
-// A line's note, and how status follows it.
+// A line's note, and status after it.
 ghost use mathlib.Core.Path.{_≡_};
 ghost use Prim.Native.Nat.{_≤_};
 ghost use Rattle.sprites.specs.Scan.{fifthOf};

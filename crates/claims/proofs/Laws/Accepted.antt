@@ -37,7 +37,7 @@ accepted-through r block method e = by (isAccepted r) refl
     by true ok = ok
     by false no-one = absurd (refused-number r block method no-one e)
 
--- a block that holds a state encodes a well-formed one
+-- if a state's block passes its test, the state is well-formed
 held-well : (c : Chip) → length (c .registers) ≡ 8 → holdsBlock (blockOf c) ≡ true → wellFormed c ≡ true
 unfolding wellFormed
 held-well c eight holds = subst (λ (d : Chip). wellFormed d ≡ true) (chip-block c eight) (state-of (blockOf c) (and-right (leb (getD (blockOf c) 14 0) 1) (holdsState (blockOf c)) holds))

@@ -24,7 +24,7 @@ pub record Same (t : FromC) (a : Answer) : Type 0 where
   pub refusal : t .result / 256 ≡ numberOf (a .refusal)
   pub value : t .result % 256 ≡ a .value
 
--- a number of C, taken apart
+-- the two parts of a result from C
 low : {x v : ℕ} → x ≡ v → v < 256 → (x / 256 ≡ 0) × (x % 256 ≡ v)
 low e h = (omega arith, omega arith)
 

@@ -1,4 +1,4 @@
--- After power-up, a snapshot read or a full draw that is accepted the bench has the invariant, whatever state it was in.
+-- After power-up, a snapshot read or a full draw that is accepted the bench has the invariant.
 use Prim.Native.Nat.{ℕ}
 use mathlib.Core.Path.{_≡_, refl, subst⁻¹, _∙_}
 use mathlib.Core.Bool.{true, cond}

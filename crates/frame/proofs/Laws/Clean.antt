@@ -1,4 +1,4 @@
--- The heart of demand 3: a frame is clean when every line that is not due stands as a full draw would leave it.
+-- The invariant of demand 3: a frame is clean when every line that is not due stands as a full draw would leave it.
 use Prim.Native.Nat.{ℕ, _/_, _<_}
 use mathlib.Core.Path.{_≡_, refl, ap, ap₂, _∙_}
 use mathlib.Core.Bool.{Bool, true, false, cond, _||_}
