@@ -13,9 +13,9 @@ use Rattle.claims.proofs.Laws.Keeps.{run-keeps}
 
 -- Take a bench whose four lists have their lengths, whose state fits its types and whose VRAM holds bytes, and a full draw
 -- of it that is accepted, called directly or from C. Take then any list of calls, of which nothing is asked but that the
--- bytes they bring are bytes: each may be lent the bench's lists or others of the wrong length, and be accepted or refused. Take
--- last a refresh, called directly or from C, that is accepted. It leaves the same bench (state, VRAM, map, frame and notes)
--- as a full draw from the same state and VRAM into any map, frame and notes of the right lengths, and that full draw is
+-- bytes they bring are bytes: each may be lent the bench's lists or others of the wrong length, and be accepted or refused.
+-- Take last a refresh, called directly or from C, that is accepted. It leaves the same bench (state, VRAM, map, frame and
+-- notes) as a full draw from the same state and VRAM into any map, frame and notes of the right lengths, and that full draw is
 -- accepted. With the bench's own map, frame and notes that is the full draw in place of the refresh; from C a full draw is
 -- the same (from-c, RefusedCalls.antt).
 --
