@@ -8,8 +8,8 @@ use Rattle.frame.specs.Lines.{frameSize, notesSize}
 use Rattle.claims.specs.Bench.{Bench, Lengths, Typed}
 use Rattle.claims.specs.Call.{fullDraw, refresh, direct, Call, CallsBytes, whole}
 use Rattle.claims.specs.Step.{step, run}
-use Rattle.claims.proofs.Laws.Accepted.{after-full, after-refresh, full-elsewhere}
 use Rattle.claims.proofs.Laws.Keeps.{run-keeps}
+use Rattle.claims.proofs.Laws.Accepted.{after-full, after-refresh, full-elsewhere}
 
 -- Take a bench whose four lists have their lengths, whose state fits its types and whose VRAM holds bytes, and a full draw
 -- of it that is accepted, called directly or from C. Take then any list of calls, of which nothing is asked but that the

@@ -6,3 +6,4 @@ pub mod Due
 pub mod Marks
 pub mod Clean
 pub mod Calls
+pub mod Still

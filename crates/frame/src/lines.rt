@@ -1,8 +1,8 @@
 // Redrawing the lines that are due.
 ghost use mathlib.Core.Path.{_≡_};
 ghost use mathlib.Core.Bool.{true, cond};
-ghost use Prim.Native.Nat.{_<_};
-ghost use lib.ListN.{length};
+ghost use Prim.Native.Nat.{ℕ, _<_};
+ghost use lib.ListN.{length, getD};
 ghost use Rattle.chip.specs.State.{masked};
 ghost use Rattle.scanline.specs.Calls.{noteAt, colours};
 ghost use Rattle.frame.specs.Due as due;
@@ -54,8 +54,8 @@ fn redraw_line(
     }
 }
 
-// Redraws the due lines, and counts them.
-pub fn redraw_lines(
+// Asks every line whether it is due, redraws those that are, and counts them.
+fn redraw_each(
     mark: bool,
     r: [u8; 8],
     vram: &[u8],
@@ -79,4 +79,37 @@ pub fn redraw_lines(
         l += 1;
     }
     redrawn
+}
+
+// Whether the map is clear. It joins all bytes and leaves at none, so that many can be joined at once.
+fn is_clear(map: &[u8]) -> bool
+    ensures { λ b. ⌜ (b ≡ true → (k : ℕ) → k < length (now (map .entry)) → getD (now (map .entry)) k 0 ≡ 0) ⌝ }
+{
+    let mut joined: u8 = 0;
+    let mut i = 0;
+    while i < map.len() {
+        joined |= map[i];
+        i += 1;
+    }
+    joined == 0
+}
+
+// Redraws the due lines, and counts them. With mark and map clear none is due, and no line is asked.
+pub fn redraw_lines(
+    mark: bool,
+    r: [u8; 8],
+    vram: &[u8],
+    map: &[u8],
+    frame: &mut [u8],
+    notes: &mut [u8],
+) -> u8
+    requires { ⌜ (masked r ≡ true) × (length (now vram) ≡ 16384) × (length (now map) ≡ 2048) × (length (now frame) ≡ 49152) × (length (now notes) ≡ 192) ⌝ }
+    ensures { λ n. ⌜ n ≡ due.dueCount mark r (now (vram .entry)) (now (map .entry)) ⌝ }
+    ensures { λ _. ⌜ now (frame .exit) ≡ due.newFrame mark r (now (vram .entry)) (now (map .entry)) (now (frame .entry)) ⌝ }
+    ensures { λ _. ⌜ now (notes .exit) ≡ due.newNotes mark r (now (vram .entry)) (now (map .entry)) (now (notes .entry)) ⌝ }
+{
+    if !mark & is_clear(map) {
+        return 0;
+    }
+    redraw_each(mark, r, vram, map, frame, notes)
 }

@@ -15,7 +15,7 @@ fn choose(set: bool, one: u8, zero: u8) -> u8
 }
 
 // The first width bits of a pattern, from the left: 1 bits in one colour, 0 bits in the other.
-pub fn paint_cell(line: &mut [u8], at: usize, width: usize, pattern: u8, one: u8, zero: u8)
+fn paint_cell(line: &mut [u8], at: usize, width: usize, pattern: u8, one: u8, zero: u8)
     requires { ⌜ (at + width ≤ length (now line)) × (width ≤ 8) ⌝ }
     ensures { λ _. ⌜ Painted (now (line .exit)) (now (line .entry)) at width (λ k. cond (bits.bit (7 - k) pattern) one zero) ⌝ }
 {
@@ -24,4 +24,19 @@ pub fn paint_cell(line: &mut [u8], at: usize, width: usize, pattern: u8, one: u8
         line[at + k] = choose(bit(pattern, (7 - k) as u8), one, zero);
         k += 1;
     }
+}
+
+// A cell of eight pixels, and one of six: with the count known no loop is left.
+pub fn paint_eight(line: &mut [u8], at: usize, pattern: u8, one: u8, zero: u8)
+    requires { ⌜ at + 8 ≤ length (now line) ⌝ }
+    ensures { λ _. ⌜ Painted (now (line .exit)) (now (line .entry)) at 8 (λ k. cond (bits.bit (7 - k) pattern) one zero) ⌝ }
+{
+    paint_cell(line, at, 8, pattern, one, zero)
+}
+
+pub fn paint_six(line: &mut [u8], at: usize, pattern: u8, one: u8, zero: u8)
+    requires { ⌜ at + 6 ≤ length (now line) ⌝ }
+    ensures { λ _. ⌜ Painted (now (line .exit)) (now (line .entry)) at 6 (λ k. cond (bits.bit (7 - k) pattern) one zero) ⌝ }
+{
+    paint_cell(line, at, 6, pattern, one, zero)
 }

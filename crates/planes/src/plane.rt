@@ -14,7 +14,8 @@ ghost use Rattle.planes.specs.Painted.{Painted};
 use crate::address::cells_in;
 use crate::cell::Cell;
 use crate::cell::cell_of;
-use crate::paint::paint_cell;
+use crate::paint::paint_eight;
+use crate::paint::paint_six;
 use crate::pixel::over;
 use crate::pixel::rear_of;
 use chip::Mode;
@@ -46,12 +47,16 @@ fn margin_of(mode: Mode) -> usize
 
 // A cell's pixels over what stands behind them.
 fn show_cell(line: &mut [u8], at: usize, width: usize, cell: Cell, behind: u8)
-    requires { ⌜ (at + width ≤ length (now line)) × (width ≤ 8) ⌝ }
+    requires { ⌜ (at + width ≤ length (now line)) × ((width ≡ 8 → ⊥) → width ≡ 6) ⌝ }
     ensures { λ _. ⌜ Painted (now (line .exit)) (now (line .entry)) at width (λ k. pixel.over (pick cell k) behind) ⌝ }
 {
     let one = over(cell.colours / 16, behind);
     let zero = over(cell.colours % 16, behind);
-    paint_cell(line, at, width, cell.pattern, one, zero);
+    if width == 8 {
+        paint_eight(line, at, cell.pattern, one, zero);
+    } else {
+        paint_six(line, at, cell.pattern, one, zero);
+    }
 }
 
 // The pattern plane of line l over the backdrop, into a lent line. It counts through the cells.

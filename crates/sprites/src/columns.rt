@@ -29,6 +29,6 @@ pub fn bit_at(r: [u8; 8], s: Sprite, c: usize) -> bool
     requires { ⌜ (s .first ≤ c) × (c < s .first + shape.side r) ⌝ }
     ensures { λ b. ⌜ b ≡ hits r s c ⌝ }
 {
-    let p = scaled(is_magnified(r), c - s.first as usize);
-    (s.bits >> (15 - p) as u16) % 2 == 1
+    let p = scaled(is_magnified(r), (c - s.first as usize) as u16);
+    (s.bits >> (15 - p)) % 2 == 1
 }

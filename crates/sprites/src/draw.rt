@@ -5,8 +5,8 @@ ghost use lib.ListN.{length, getD, take, replicate};
 ghost use Rattle.chip.specs.Lists.{tabulate};
 ghost use Rattle.planes.specs.Pixel as pixel;
 ghost use Rattle.sprites.specs.Pixels.{visible, coloursAt, coincidence};
-use crate::paint::meets;
 use crate::paint::paint_sprite;
+use crate::paint::take_columns;
 use crate::scan::Scan;
 
 type Columns = [u8; 256];
@@ -32,9 +32,8 @@ pub fn draw_sprites(line: &mut [u8], r: [u8; 8], scan: Scan) -> bool
     while 0 < k {
         k -= 1;
         let s = sprites[k];
-        met = meets(&taken, r, s) | met;
+        met = take_columns(&mut taken, r, s) | met;
         paint_sprite(line, r, s, s.colour);
-        paint_sprite(&mut taken, r, s, 1);
     }
     met
 }

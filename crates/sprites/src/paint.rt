@@ -1,4 +1,4 @@
-// Painting a sprite over a line, and looking for set bits that meet.
+// Painting a sprite over a line, and taking its columns.
 ghost use mathlib.Core.Path.{_≡_};
 ghost use mathlib.Core.Bool.{cond, _&&_};
 ghost use lib.Dec.{eqb};
@@ -34,18 +34,22 @@ pub fn paint_sprite(line: &mut [u8], r: [u8; 8], s: Sprite, colour: u8)
     }
 }
 
-// Whether the sprite has a set bit at a column that is taken (1).
-pub fn meets(taken: &[u8], r: [u8; 8], s: Sprite) -> bool
+// Takes (1) each column where the sprite has a set bit, and answers whether one of them was taken before. It leaves at
+// none, so that many columns can be looked at at once.
+pub fn take_columns(taken: &mut [u8], r: [u8; 8], s: Sprite) -> bool
     requires { ⌜ length (now taken) ≡ 256 ⌝ }
     ensures { λ b. ⌜ b ≡ anyBelow 256 (λ x. hits r s (visible x) && eqb (getD (now (taken .entry)) x 0) 1) ⌝ }
+    ensures { λ _. ⌜ now (taken .exit) ≡ tabulate 256 (λ x. pixel.over (cond (hits r s (visible x)) 1 0) (getD (now (taken .entry)) x 0)) ⌝ }
 {
     let end = end_column(r, s);
+    let mut met = false;
     let mut c = first_column(s);
     while c < end {
-        if bit_at(r, s, c) & (taken[c - 32] == 1) {
-            return true;
-        }
+        let x = c - 32;
+        let set = bit_at(r, s, c);
+        met = set & (taken[x] == 1) | met;
+        taken[x] = over(front(set, 1), taken[x]);
         c += 1;
     }
-    false
+    met
 }

@@ -29,8 +29,8 @@ pub fn side(r: [u8; 8]) -> usize
     if magnified { 16 } else { 8 }
 }
 
-// A count of lines or columns in pattern rows or bits.
-pub fn scaled(magnified: bool, d: usize) -> usize
+// A count of lines or columns in pattern rows or bits. 16 bits wide, as a row of bits is.
+pub fn scaled(magnified: bool, d: u16) -> u16
     ensures { λ n. ⌜ n ≡ shape.scaled magnified d ⌝ }
 {
     if magnified { d / 2 } else { d }

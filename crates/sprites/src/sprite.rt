@@ -42,8 +42,8 @@ pub fn pattern_at(r: [u8; 8], l: u8, y: u8, name: u8) -> usize
     requires { ⌜ (masked r ≡ true) × (covers r l y ≡ true) ⌝ }
     ensures { λ a. ⌜ a ≡ scan.patternAt r l y name ⌝ }
 {
-    let row = scaled(is_magnified(r), row_offset(l, y) as usize);
-    r[6] as usize * 2048 + (8 * name_of(r, name) as usize + row)
+    let row = scaled(is_magnified(r), row_offset(l, y) as u16);
+    r[6] as usize * 2048 + (8 * name_of(r, name) as usize + row as usize)
 }
 
 // The first column, from 32 left of the screen.

@@ -2,7 +2,7 @@
 use Prim.Native.Nat.{ℕ, _+_, _*_, _/_, _≤_, _<_}
 use native.Mathlib.Nat.{not-suc-le-zero}
 use native.Mathlib.Omega.{arith}
-use mathlib.Core.Path.{_≡_}
+use mathlib.Core.Path.{_≡_, refl}
 use mathlib.Core.Bool.{true}
 use mathlib.Core.List.{List}
 use lib.Dec.{lit<}
@@ -58,12 +58,12 @@ columns-within GraphicsII = omega arith
 columns-within Multicolor = omega arith
 columns-within Text = omega arith
 
-pub width-small : (m : Mode) → cellWidth m < 9
-width-small Blank = omega arith
-width-small GraphicsI = omega arith
-width-small GraphicsII = omega arith
-width-small Multicolor = omega arith
-width-small Text = omega arith
+pub eight-or-six : (m : Mode) → (cellWidth m ≡ 8 → ⊥) → cellWidth m ≡ 6
+eight-or-six Blank h = absurd (h refl)
+eight-or-six GraphicsI h = absurd (h refl)
+eight-or-six GraphicsII h = absurd (h refl)
+eight-or-six Multicolor h = absurd (h refl)
+eight-or-six Text h = refl
 
 -- so does each cell's run
 pub run-within : (m : Mode) (i : ℕ) → i < cellsIn m → margin m + i * cellWidth m + cellWidth m < 257

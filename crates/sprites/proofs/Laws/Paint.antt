@@ -3,12 +3,15 @@ use Prim.Native.Nat.{ℕ, _+_, _-_, _≤_, _<_}
 use native.Mathlib.Decide.{decLt}
 use native.Mathlib.Omega.{arith}
 use mathlib.Core.Path.{_≡_, refl, sym, ap, ap₂, _∙_}
-use mathlib.Core.Bool.{Bool, false}
+use mathlib.Core.Bool.{Bool, true, false, _||_}
 use mathlib.Core.List.{List}
 use lib.ListN.{length, getD, set, length-set}
 use lib.Seq.{getD-set-same, getD-set-other}
 use Rattle.chip.specs.Lists.{tabulate}
+use Rattle.chip.specs.Ranges.{anyBelow}
 use Rattle.chip.proofs.Laws.Lists.{tabulated}
+use Rattle.chip.proofs.Laws.Ranges.{one-holds, none-holds}
+use borrow.Author.Tests.{eqb-false}
 use Rattle.sprites.specs.Pixels.{visible}
 
 -- The visible columns before c became f's, and the others are as they were.
@@ -54,3 +57,26 @@ none-yet p c low before here x below = by (decLt (visible x) c)
         let column : visible x ≡ c = omega arith in
         let place : x ≡ c - 32 = omega arith in
         ap₂ p column place ∙ here
+
+-- Whether p holds at a visible column: met says so of the columns before c.
+pub record Met (met : Bool) (p : ℕ → Bool) (c : ℕ) : Type 0 where
+  pub one : met ≡ true → anyBelow 256 p ≡ true
+  pub none : met ≡ false → (x : ℕ) → visible x < c → p x ≡ false
+
+pub met-none : {p : ℕ → Bool} {c : ℕ} → ((x : ℕ) → visible x < c → p x ≡ false) → Met false p c
+met-none h = record { one = λ e. absurd (eqb-false 0 0 (sym e) refl); none = λ e. h }
+
+pub met-more : {met : Bool} {p : ℕ → Bool} {c : ℕ} (b : Bool) → 32 ≤ c → c < 288 → b ≡ p (c - 32) → Met met p c → Met (b || met) p (c + 1)
+met-more {met} {p} {c} true low high e m = record { one = λ _. one-holds 256 p (c - 32) (omega arith) (sym e); none = λ f. absurd (eqb-false 0 0 f refl) }
+met-more {met} {p} {c} false low high e m = record { one = m .one; none = λ f. none-yet (λ _ x. p x) c low (m .none f) (sym e) }
+
+pub met-all : {met : Bool} {p : ℕ → Bool} {c : ℕ} → ((x : ℕ) → x < 256 → c ≤ visible x → p x ≡ false) → Met met p c → met ≡ anyBelow 256 p
+met-all {met} {p} {c} after m = settled met refl
+  where
+    by : met ≡ false → (x : ℕ) → x < 256 → Dec (visible x < c) → p x ≡ false
+    by e x h (yes before) = m .none e x before
+    by e x h (no beyond) = after x h (omega arith)
+
+    settled : (b : Bool) → met ≡ b → met ≡ anyBelow 256 p
+    settled true e = e ∙ sym (m .one e)
+    settled false e = e ∙ sym (none-holds 256 p (λ x h. by e x h (decLt (visible x) c)))

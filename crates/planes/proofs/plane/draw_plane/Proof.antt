@@ -7,7 +7,7 @@ use mathlib.Core.Path.{_≡_, ap, _∙_}
 use borrow.Author.Needs.{needs}
 use Rattle.planes.specs.Cells.{cellsIn, cellWidth, margin}
 use Rattle.planes.specs.Pixel.{rear}
-use Rattle.planes.proofs.Laws.Cells.{run-within, width-small, cells-few}
+use Rattle.planes.proofs.Laws.Cells.{run-within, eight-or-six, cells-few}
 use Rattle.planes.proofs.Laws.Painted.{Shown}
 use Rattle.planes.proofs.Laws.Plane.{colour, shown-none, shown-cell, shown-plane}
 use Rattle.planes.proofs.plane.draw_plane.Statement.{statement}
@@ -63,7 +63,7 @@ cell-of-requires c κs =
 show-cell-requires : tie.Need-show-cell-requires Inv-loop μ-loop
 show-cell-requires c κs =
     let i = c .before .before in
-    (rw (i .before .loop .inv .2 .long) (omega (arith, room i)), rw (width i) (omega (arith, width-small (Start (i .before .before) .args .mode))))
+    (rw (i .before .loop .inv .2 .long) (omega (arith, room i)), rw (width i) (eight-or-six (Start (i .before .before) .args .mode)))
 
 add-at : tie.Need-add-at Inv-loop μ-loop
 add-at c = omega (arith, room (c .before .before .before .before .before))

@@ -1,6 +1,6 @@
 -- `bit_at` meets its contract.
 use native.Mathlib.Omega.{arith}
-use Rattle.sprites.proofs.Laws.Columns.{bit-small, hits-in}
+use Rattle.sprites.proofs.Laws.Columns.{side-small, bit-small, hits-in}
 use borrow.Author.Needs.{needs}
 use Rattle.sprites.proofs.columns.bit_at.Statement.{statement}
 use Rattle.sprites.proofs.columns.bit_at.Tie as tie
@@ -14,6 +14,9 @@ cast-scaled c = search needs
 sub-scaled : tie.Need-sub-scaled
 sub-scaled c = search needs
 
+cast-scaled-2 : tie.Need-cast-scaled-2
+cast-scaled-2 c = omega (arith, side-small (c .before .before .args .r))
+
 scaled-requires : tie.Need-scaled-requires
 scaled-requires c κs = search needs
 
@@ -22,9 +25,6 @@ sub-result c =
     let s = c .before .before .before in
     let small = rw (c .before .before .is-magnified .ensures) at (c .scaled .ensures) in
     omega (arith, small, bit-small (s .args .r) (s .args .s) (s .args .c) (s .pre .0) (s .pre .1))
-
-cast-result : tie.Need-cast-result
-cast-result c = search needs
 
 shr-result : tie.Need-shr-result
 shr-result c = search needs
@@ -41,8 +41,8 @@ bit-at-spec =
     is-magnified-requires
     cast-scaled
     sub-scaled
+    cast-scaled-2
     scaled-requires
     sub-result
-    cast-result
     shr-result
     returns)

@@ -31,36 +31,31 @@ mul-s c = omega arith
 array-copy-out-s : tie.Need-array-copy-out-s Inv-loop μ-loop
 array-copy-out-s c = omega arith
 
-slice-aggregate-meets : tie.Need-slice-aggregate-meets Inv-loop μ-loop
-slice-aggregate-meets c = sym (taken-long (c .before .before .before .loop .inv .2))
+slice-aggregate-take-columns : tie.Need-slice-aggregate-take-columns Inv-loop μ-loop
+slice-aggregate-take-columns c = sym (taken-long (c .before .before .before .loop .inv .2))
 
-meets-requires : tie.Need-meets-requires Inv-loop μ-loop
-meets-requires c κs = taken-long (c .before .before .before .loop .inv .2)
+take-columns-requires : tie.Need-take-columns-requires Inv-loop μ-loop
+take-columns-requires c κs = taken-long (c .before .before .before .loop .inv .2)
 
 paint-sprite-requires : tie.Need-paint-sprite-requires Inv-loop μ-loop
-paint-sprite-requires c κs = line-long (c .before .before .before .before .before .loop .inv .2)
-
-slice-aggregate-paint-sprite : tie.Need-slice-aggregate-paint-sprite Inv-loop μ-loop
-slice-aggregate-paint-sprite c = sym (taken-long (c .before .before .before .before .before .before .before .before .before .loop .inv .2))
-
-paint-sprite-requires-2 : tie.Need-paint-sprite-requires-2 Inv-loop μ-loop
-paint-sprite-requires-2 c κs = taken-long (c .before .before .before .before .before .before .before .before .before .loop .inv .2)
+paint-sprite-requires c κs = line-long (c .before .before .before .before .before .before .loop .inv .2)
 
 loop-less : tie.Need-loop-less Inv-loop μ-loop
 loop-less c =
-    let h = c .before .before .before .before .before .before .before .before .before .before in
-    omega (arith, h .loop-test .taken)
+    let i = c .before .before .before .before .before .before .before .before in
+    omega (arith, i .loop-test .taken)
 
 loop-again : tie.Need-loop-again Inv-loop μ-loop
 loop-again c =
-    let i = c .before .before .before .before .before .before .before .before .before .before in
+    let i = c .before .before .before .before .before .before .before .before in
     let h = i .before .loop in
     let a = i .before .before .before .before .before .args in
-    let four = i .before .before .before .before .before .pre .1 in (
+    let four = i .before .before .before .before .before .pre .1 in
+    let taken = c .before .before .before .before .before .take-columns .ensures in (
       omega arith,
       h .inv .1,
       rw (one-lower (a .scan .sprites) (a .scan .drawn) (h .k) noSprite (i .loop-test .taken) (h .inv .0) (omega (arith, h .inv .1)))
-          (over-one (h .inv .2) (getD (a .scan .sprites) (h .k - 1) noSprite) (c .before .before .before .before .before .paint-sprite .ensures) (c .before .paint-sprite2 .ensures) (c .before .before .before .before .before .before .before .meets .ensures)),
+          (over-one (h .inv .2) (getD (a .scan .sprites) (h .k - 1) noSprite) (c .before .before .paint-sprite .ensures) (taken .1) (taken .0)),
     )
 
 same-length : tie.Need-same-length Inv-loop μ-loop
@@ -84,11 +79,9 @@ draw-sprites-spec =
     sub-k
     mul-s
     array-copy-out-s
-    slice-aggregate-meets
-    meets-requires
+    slice-aggregate-take-columns
+    take-columns-requires
     paint-sprite-requires
-    slice-aggregate-paint-sprite
-    paint-sprite-requires-2
     loop-less
     loop-again
     same-length

@@ -39,6 +39,9 @@ cast-result-2 c = search needs
 mul-result-2 : tie.Need-mul-result-2
 mul-result-2 c = search needs
 
+cast-result-3 : tie.Need-cast-result-3
+cast-result-3 c = search needs
+
 row : (c : tie.After-name-of) → c .before .scaled .result < 256
 row c = rw (c .before .scaled .ensures) (omega (arith, scaled-le (c .before .before .before .is-magnified .result) (c .before .before .row-offset .result), c .before .before .row-offset .ok))
 
@@ -66,6 +69,7 @@ pattern-at-spec =
     name-of-requires
     cast-result-2
     mul-result-2
+    cast-result-3
     add-result
     add-result-2
     returns)

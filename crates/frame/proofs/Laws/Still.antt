@@ -1,0 +1,71 @@
+-- With the redraw mark and the map clear no line is due, and all stays as it is.
+use Prim.Native.Nat.{ℕ, zero, suc, _+_, _*_, _/_, _%_, _^_, _<_}
+use native.Mathlib.Nat.{mul-suc, zero-div}
+use native.Mathlib.Omega.{arith}
+use mathlib.Core.Path.{_≡_, refl, sym, ap, ap₂, _∙_}
+use mathlib.Core.Bool.{Bool, true, false, cond, not, _&&_, _||_}
+use mathlib.Core.List.{List, [], _∷_, _++_}
+use lib.Bits.{bitOr, or-add-and, and-le-l, and-le-r}
+use lib.Dec.{eqb, ltb}
+use borrow.Author.Tests.{ltb-true, ltb-false}
+use lib.ListN.{length, getD, take, List·getD-eq-default}
+use lib.Seq.{take-add, take-all}
+use mir.Val.{boolByte}
+use Rattle.chip.specs.Bits.{bit}
+use Rattle.chip.proofs.Laws.Lists.{tabulated}
+use Rattle.fetches.specs.Fetch.{fetched, anyMarked}
+use Rattle.scanline.specs.Line.{lineOf}
+use Rattle.scanline.specs.Calls.{noteAt, colours}
+use Rattle.frame.specs.Lines.{endToEnd, lineAt, countBelow}
+use Rattle.frame.specs.Due.{due, newLine, newNote, newFrame, newNotes, dueCount}
+use Rattle.frame.proofs.Laws.Lines.{end-same}
+use Rattle.frame.proofs.Laws.Marks.{differ}
+
+-- two bytes that join to 0
+pub joined-none : (a b : ℕ) → bitOr a b ≡ 0 → (a ≡ 0) × (b ≡ 0)
+joined-none a b e = (omega (arith, or-add-and a b, and-le-l a b, and-le-r a b), omega (arith, or-add-and a b, and-le-l a b, and-le-r a b))
+
+pub clear-both : (mark clear : Bool) → (not mark && clear) ≡ true → (mark ≡ false) × (clear ≡ true)
+clear-both true clear e = absurd (differ (sym e))
+clear-both false clear e = (refl, e)
+
+no-bit : (k : ℕ) → bit k 0 ≡ false
+no-bit k = ap (λ (n : ℕ). eqb (n % 2) 1) (zero-div (2 ^ k))
+
+module _ (map : List ℕ) (clear : (k : ℕ) → k < length map → getD map k 0 ≡ 0) where
+  everywhere : (k : ℕ) → getD map k 0 ≡ 0
+  everywhere k = by (ltb k (length map)) refl
+    where
+      by : (b : Bool) → ltb k (length map) ≡ b → getD map k 0 ≡ 0
+      by true e = clear k (ltb-true k (length map) e)
+      by false e = List·getD-eq-default map 0 (ltb-false k (length map) e)
+
+  none-marked : (l : List ℕ) → anyMarked map l ≡ false
+  none-marked [] = refl
+  none-marked (a ∷ l) = ap₂ (λ (p q : Bool). p || q) (ap (bit (a % 8)) (everywhere (a / 8)) ∙ no-bit (a % 8)) (none-marked l)
+
+  module _ (r vram : List ℕ) where
+    none-due : (l : ℕ) → due false r vram map l ≡ false
+    unfolding due
+    none-due l = none-marked (fetched (lineOf r l) vram)
+
+    -- a frame's lines, end to end
+    front-lines : (frame : List ℕ) (n : ℕ) → endToEnd n (lineAt frame) ≡ take (256 * n) frame
+    unfolding endToEnd
+    front-lines frame zero = refl
+    front-lines frame (suc n) = ap (λ (t : List ℕ). t ++ lineAt frame n) (front-lines frame n) ∙ sym (take-add (256 * n) 256 frame) ∙ ap (λ (m : ℕ). take m frame) (sym (mul-suc 256 n))
+
+    pub frame-stays : (frame : List ℕ) → length frame ≡ 49152 → frame ≡ newFrame false r vram map frame
+    frame-stays frame e =
+        sym (end-same 192 (newLine false r vram map frame) (lineAt frame) (λ l h. ap (λ (b : Bool). cond b (colours r vram l) (lineAt frame l)) (none-due l)) ∙ front-lines frame 192 ∙ take-all 49152 frame (omega arith))
+
+    pub notes-stay : (notes : List ℕ) → length notes ≡ 192 → notes ≡ newNotes false r vram map notes
+    notes-stay notes e = tabulated e (λ l h. sym (ap (λ (b : Bool). cond b (noteAt r vram l) (getD notes l 0)) (none-due l)))
+
+    none-counted : (n : ℕ) → countBelow n (due false r vram map) ≡ 0
+    unfolding countBelow
+    none-counted zero = refl
+    none-counted (suc n) = ap₂ (λ (a : ℕ) (b : Bool). a + boolByte b) (none-counted n) (none-due n)
+
+    pub no-count : 0 ≡ dueCount false r vram map
+    no-count = sym (none-counted 192)
