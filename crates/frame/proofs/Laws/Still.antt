@@ -13,13 +13,13 @@ use lib.Seq.{take-add, take-all}
 use mir.Val.{boolByte}
 use Rattle.chip.specs.Bits.{bit}
 use Rattle.chip.proofs.Laws.Lists.{tabulated}
+use Rattle.chip.proofs.Laws.Refusals.{differ}
 use Rattle.fetches.specs.Fetch.{fetched, anyMarked}
 use Rattle.scanline.specs.Line.{lineOf}
 use Rattle.scanline.specs.Calls.{noteAt, colours}
 use Rattle.frame.specs.Lines.{endToEnd, lineAt, countBelow}
 use Rattle.frame.specs.Due.{due, newLine, newNote, newFrame, newNotes, dueCount}
 use Rattle.frame.proofs.Laws.Lines.{end-same}
-use Rattle.frame.proofs.Laws.Marks.{differ}
 
 -- two bytes that join to 0
 pub joined-none : (a b : ℕ) → bitOr a b ≡ 0 → (a ≡ 0) × (b ≡ 0)
