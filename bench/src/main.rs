@@ -6,7 +6,7 @@ mod timing;
 
 use difftest::library::{Calls, LIBRARY, REFERENCE};
 use difftest::show;
-use pictures::{picture, Picture, MODES, SPRITES};
+use pictures::{picture, Picture, CHANGES, MODES, SPRITES};
 use timing::{in_turn, time};
 
 const ROUNDS: usize = 2000;
@@ -35,7 +35,6 @@ fn fill(picture: &mut Picture) {
 }
 
 /// Draws the whole picture.
-#[cfg(feature = "frame")]
 fn draw(calls: &Calls, picture: &mut Picture) {
     let Picture {
         block,
@@ -48,22 +47,8 @@ fn draw(calls: &Calls, picture: &mut Picture) {
     assert_eq!((calls.full_draw)(block, vram, map, frame, notes), 0);
 }
 
-/// Stands in for the full draw: the picture's lines one by one.
-#[cfg(not(feature = "frame"))]
-fn draw(calls: &Calls, picture: &mut Picture) {
-    let Picture { block, vram, frame, .. } = picture;
-    for (number, line) in frame.chunks_mut(256).enumerate() {
-        assert_eq!((calls.draw_line)(block, vram, line, number as u32), 0);
-    }
-}
-
 fn draw_table() {
-    let what = if cfg!(feature = "frame") {
-        "full draw"
-    } else {
-        "192 line draws (in place of a full draw)"
-    };
-    println!("{:56}{:>8}{:>9}{:>20}", format!("{what}, in memsets"), "best", "median", "reference/library");
+    println!("{:56}{:>8}{:>9}{:>20}", "full draw, in memsets", "best", "median", "reference/library");
     let mut memsets = Vec::new();
     for (mode, mode_name) in MODES.into_iter().enumerate() {
         for (sprites, sprites_name) in SPRITES.into_iter().enumerate() {
@@ -84,9 +69,7 @@ fn draw_table() {
     println!("memset of 49,152 bytes: best {best:.0} ns\n");
 }
 
-#[cfg(feature = "frame")]
 fn refresh_table() {
-    use pictures::CHANGES;
     println!("refresh with 32 sprites of 16 by 16, as a part of a full draw");
     println!("{:36}{:>6}{:>9}{:>9}", "", "lines", "best", "median");
     for (mode, mode_name) in MODES.into_iter().enumerate() {
@@ -113,11 +96,6 @@ fn refresh_table() {
     println!();
 }
 
-#[cfg(not(feature = "frame"))]
-fn refresh_table() {
-    println!("refresh: not there yet (feature frame)\n");
-}
-
 fn port_table() {
     let Picture {
         mut block,
@@ -139,10 +117,6 @@ fn port_table() {
 
 /// The whole program: its start, reading, drawing and printing.
 fn show_table() {
-    if !show::is_there() {
-        println!("show: not built");
-        return;
-    }
     println!("{:30}{:>9}{:>9}", "show, in milliseconds", "best", "median");
     for (mode, name) in MODES.into_iter().enumerate() {
         let Picture { block, vram, .. } = picture(mode, 1);
