@@ -16,7 +16,7 @@
 
 #include "birdcleft.h"
 
-enum { LINES = 192, PIXELS = 256 };
+enum { LINES = VDP_LINES, PIXELS = VDP_LINE_SIZE };
 
 /* What a chip has: its state, its memory, and which bytes of it were written since the last draw. */
 struct chip {
