@@ -1,212 +1,272 @@
-/* A small bench host. A driver talks to the chip through its ports alone; the host draws what the chip
- * would show and compares pictures.
+/* A small bench host: it runs a driver against the chip, looks at the pictures and says what is wrong.
  *
- * First part: a driver sets up Graphics I with a picture and a sprite; the host draws it, the driver
- * changes two things, the host refreshes, and a full draw into other buffers must agree.
- * Second part: a driver scrolls its picture up by one row. One driver forgets the last row, which then
- * stands there twice; the host catches it by a chip that was given the wanted picture afresh. */
+ *     rt staticlib birdcleft
+ *     gcc -Iinclude examples/host.c target/staticlib/libbirdcleft.a -o host
+ *
+ * The driver is what would run on the board. It reaches the chip through the control port and the data port alone.
+ * The host owns the chip's bytes and the picture's and lends them to each call.
+ *
+ * 1. Power-up, the driver's opening sequence, and a full draw.
+ * 2. An interrupt, in which the driver moves a sprite and writes a name. A refresh redraws the lines that this
+ *    touches; a full draw into a second picture has to give the same.
+ * 3. The driver scrolls, and the picture is held against the wanted one. A driver that leaves an old row standing
+ *    is caught. */
 #include <stdio.h>
 #include <string.h>
 
 #include "birdcleft.h"
 
-/* A chip on the bench, with all that its calls are lent. */
+enum { LINES = VDP_LINES, PIXELS = VDP_LINE_SIZE };
+
+/* What a chip has: its state, its memory, and which bytes of it were written since the last draw. */
 struct chip {
     uint8_t block[VDP_BLOCK_SIZE];
     uint8_t vram[VDP_VRAM_SIZE];
     uint8_t map[VDP_MAP_SIZE];
+};
+
+/* What is drawn: a colour for each pixel, and a note on the sprites of each line. */
+struct picture {
     uint8_t frame[VDP_FRAME_SIZE];
     uint8_t notes[VDP_NOTES_SIZE];
 };
 
 static int trouble;
 
-/* No call below is lent anything wrong, so none is refused. */
-static uint32_t accepted(uint32_t answer, const char *call)
+/* Every call answers a refusal number and a value. Nothing wrong is lent below, so a refusal is an error here. */
+static uint8_t value(uint32_t answer)
 {
     if (VDP_REFUSAL(answer) != VDP_ACCEPTED) {
-        printf("%s refused with %u\n", call, (unsigned)VDP_REFUSAL(answer));
+        printf("refused with %u\n", (unsigned)VDP_REFUSAL(answer));
         trouble = 1;
     }
     return VDP_VALUE(answer);
 }
 
-/* The two ports, as the CPU has them. */
+/* The ports, as the board's processor sees them. */
 
-static void control(struct chip *c, uint8_t byte)
+static void write_control(struct chip *c, uint8_t byte)
 {
-    accepted(vdp_control_write(c->block, sizeof c->block, c->vram, sizeof c->vram, byte), "control write");
+    value(vdp_control_write(c->block, sizeof c->block, c->vram, sizeof c->vram, byte));
 }
 
-static void data(struct chip *c, uint8_t byte)
+static void write_data(struct chip *c, uint8_t byte)
 {
-    accepted(vdp_data_write(c->block, sizeof c->block, c->vram, sizeof c->vram, c->map, sizeof c->map, byte), "data write");
+    value(vdp_data_write(c->block, sizeof c->block, c->vram, sizeof c->vram, c->map, sizeof c->map, byte));
 }
 
 static uint8_t read_data(struct chip *c)
 {
-    return (uint8_t)accepted(vdp_data_read(c->block, sizeof c->block, c->vram, sizeof c->vram), "data read");
+    return value(vdp_data_read(c->block, sizeof c->block, c->vram, sizeof c->vram));
 }
 
 static uint8_t read_status(struct chip *c)
 {
-    return (uint8_t)accepted(vdp_status_read(c->block, sizeof c->block), "status read");
+    return value(vdp_status_read(c->block, sizeof c->block));
 }
 
-/* The driver. */
+/* The driver: Graphics I, one sprite of 16 by 16. */
 
-enum { NAMES = 0x1400, COLOURS = 0x2000, PATTERNS = 0x0800, ATTRIBUTES = 0x1000, SPRITES = 0x0000 };
+enum { SPRITE_PATTERNS = 0x0000, PATTERNS = 0x0800, ATTRIBUTES = 0x1000, NAMES = 0x1400, COLOURS = 0x2000 };
 enum { ROWS = 24, COLUMNS = 32 };
 
 static void set_register(struct chip *c, int number, uint8_t byte)
 {
-    control(c, byte);
-    control(c, (uint8_t)(0x80 | number));
+    write_control(c, byte);
+    write_control(c, (uint8_t)(0x80 | number));
 }
 
-static void write_from(struct chip *c, unsigned address)
+static void write_from(struct chip *c, int address)
 {
-    control(c, (uint8_t)(address % 256));
-    control(c, (uint8_t)(0x40 | address / 256));
+    write_control(c, (uint8_t)(address % 256));
+    write_control(c, (uint8_t)(0x40 | address / 256));
 }
 
-static void read_from(struct chip *c, unsigned address)
+static void read_from(struct chip *c, int address)
 {
-    control(c, (uint8_t)(address % 256));
-    control(c, (uint8_t)(address / 256));
+    write_control(c, (uint8_t)(address % 256));
+    write_control(c, (uint8_t)(address / 256));
 }
 
-/* Name n of the picture: row r begins with a step that moves right. Names are 0 to 3. */
-static uint8_t picture(int row, int column) { return (uint8_t)((row + column) % 5 == 0 ? 1 + row % 3 : 0); }
-
-static void open_driver(struct chip *c)
+/* The name in a cell of the driver's screen: slanting stripes of three shapes. */
+static uint8_t name_at(int row, int column)
 {
-    static const uint8_t registers[8] = { 0x00, 0xC2, 0x05, 0x80, 0x01, 0x20, 0x00, 0x04 };
+    return (uint8_t)((row + column) % 5 == 0 ? 1 + row % 3 : 0);
+}
+
+static void open_screen(struct chip *c)
+{
+    /* Display on, interrupts on, sprites of 16 by 16; the tables as above; backdrop 4. */
+    static const uint8_t registers[8] = { 0x00, 0xE2, 0x05, 0x80, 0x01, 0x20, 0x00, 0x04 };
     static const uint8_t patterns[4][8] = {
-        { 0 },
+        { 0x00, 0x00, 0x00, 0x00, 0x00, 0x00, 0x00, 0x00 },
         { 0xFF, 0x81, 0x81, 0x81, 0x81, 0x81, 0x81, 0xFF },
         { 0x18, 0x3C, 0x7E, 0xFF, 0xFF, 0x7E, 0x3C, 0x18 },
-        { 0xAA, 0x55, 0xAA, 0x55, 0xAA, 0x55, 0xAA, 0x55 }
+        { 0xAA, 0x55, 0xAA, 0x55, 0xAA, 0x55, 0xAA, 0x55 },
     };
-    int i, row;
-    read_status(c);
-    for (i = 0; i < 8; i++) set_register(c, i, registers[i]);
+    /* Y, X, name, colour; the next Y, 208, ends the list. The sprite shows from line Y + 1 on. */
+    static const uint8_t sprites[5] = { 79, 100, 0, 9, 208 };
+    int i, row, column;
+    read_status(c); /* no first control byte waits after this */
+    for (i = 0; i < 8; i++)
+        set_register(c, i, registers[i]);
     write_from(c, PATTERNS);
-    for (i = 0; i < 32; i++) data(c, patterns[i / 8][i % 8]);
+    for (i = 0; i < 32; i++)
+        write_data(c, patterns[i / 8][i % 8]);
     write_from(c, COLOURS);
-    for (i = 0; i < 32; i++) data(c, 0xF1);
+    for (i = 0; i < 32; i++)
+        write_data(c, 0xF1);
     write_from(c, NAMES);
     for (row = 0; row < ROWS; row++)
-        for (i = 0; i < COLUMNS; i++) data(c, picture(row, i));
-    /* A sprite of 16 by 16, all of it colour 9; then the end of the list. */
-    write_from(c, SPRITES);
-    for (i = 0; i < 32; i++) data(c, 0xFF);
+        for (column = 0; column < COLUMNS; column++)
+            write_data(c, name_at(row, column));
+    write_from(c, SPRITE_PATTERNS);
+    for (i = 0; i < 32; i++)
+        write_data(c, 0xFF);
     write_from(c, ATTRIBUTES);
-    data(c, 79), data(c, 100), data(c, 0), data(c, 9), data(c, 208);
+    for (i = 0; i < 5; i++)
+        write_data(c, sprites[i]);
 }
 
-/* Scrolls up by a row: reads each row and writes it one higher, then clears the last one. */
-static void scroll(struct chip *c, int clears_last_row)
+/* The interrupt routine. Reading status ends the interrupt. */
+static void on_interrupt(struct chip *c)
+{
+    read_status(c);
+    write_from(c, ATTRIBUTES + 1); /* the sprite's X */
+    write_data(c, 120);
+    write_from(c, NAMES + 3 * COLUMNS + 7);
+    write_data(c, 2);
+}
+
+/* Scrolls up by a row: each row is read and written one higher, and the last one cleared. */
+static void scroll(struct chip *c, int clear_last_row)
 {
     uint8_t names[COLUMNS];
-    int row, i;
+    int row, column;
     for (row = 1; row < ROWS; row++) {
-        read_from(c, (unsigned)(NAMES + row * COLUMNS));
-        for (i = 0; i < COLUMNS; i++) names[i] = read_data(c);
-        write_from(c, (unsigned)(NAMES + (row - 1) * COLUMNS));
-        for (i = 0; i < COLUMNS; i++) data(c, names[i]);
+        read_from(c, NAMES + row * COLUMNS);
+        for (column = 0; column < COLUMNS; column++)
+            names[column] = read_data(c);
+        write_from(c, NAMES + (row - 1) * COLUMNS);
+        for (column = 0; column < COLUMNS; column++)
+            write_data(c, names[column]);
     }
-    if (!clears_last_row) return;
+    if (!clear_last_row)
+        return; /* the planted fault: the old last row is left standing */
     write_from(c, NAMES + (ROWS - 1) * COLUMNS);
-    for (i = 0; i < COLUMNS; i++) data(c, 0);
+    for (column = 0; column < COLUMNS; column++)
+        write_data(c, 0);
 }
 
 /* The host. */
 
 static void power_up(struct chip *c)
 {
-    accepted(vdp_power_up(c->block, sizeof c->block, c->vram, sizeof c->vram), "power-up");
+    value(vdp_power_up(c->block, sizeof c->block, c->vram, sizeof c->vram));
     memset(c->map, 0, sizeof c->map);
 }
 
-static unsigned refresh(struct chip *c)
+/* Draws every line. */
+static void full_draw(struct chip *c, struct picture *p)
 {
-    return accepted(vdp_refresh(c->block, sizeof c->block, c->vram, sizeof c->vram, c->map, sizeof c->map,
-                                c->frame, sizeof c->frame, c->notes, sizeof c->notes), "refresh");
+    value(vdp_full_draw(c->block, sizeof c->block, c->vram, sizeof c->vram, c->map, sizeof c->map,
+                        p->frame, sizeof p->frame, p->notes, sizeof p->notes));
 }
 
-static void full_draw(struct chip *c)
+/* Redraws what has changed in the picture that was drawn last, and gives the number of lines. */
+static int refresh(struct chip *c, struct picture *p)
 {
-    accepted(vdp_full_draw(c->block, sizeof c->block, c->vram, sizeof c->vram, c->map, sizeof c->map,
-                           c->frame, sizeof c->frame, c->notes, sizeof c->notes), "full draw");
+    return value(vdp_refresh(c->block, sizeof c->block, c->vram, sizeof c->vram, c->map, sizeof c->map,
+                             p->frame, sizeof p->frame, p->notes, sizeof p->notes));
 }
 
-/* Prints where two pictures differ, as ranges of lines, and gives how many lines do. */
-static int compare(const struct chip *a, const struct chip *b)
+static int line_differs(const struct picture *a, const struct picture *b, int line)
 {
-    int line, first = -1, count = 0;
-    for (line = 0; line <= 192; line++) {
-        int differs = line < 192 && memcmp(a->frame + 256 * line, b->frame + 256 * line, 256) != 0;
-        count += differs;
-        if (differs && first < 0) first = line;
-        if (!differs && first >= 0) {
-            int x = 0;
-            while (a->frame[256 * first + x] == b->frame[256 * first + x]) x++;
-            printf("  lines %d-%d differ; at line %d, column %d: %d instead of %d\n", first, line - 1, first, x,
-                   a->frame[256 * first + x], b->frame[256 * first + x]);
-            first = -1;
+    return a->notes[line] != b->notes[line] || memcmp(a->frame + PIXELS * line, b->frame + PIXELS * line, PIXELS) != 0;
+}
+
+/* Prints the ranges of lines in which a picture is not the one wanted, and gives the number of lines. */
+static int compare(const struct picture *got, const struct picture *wanted, const char *name)
+{
+    int line = 0, count = 0;
+    while (line < LINES) {
+        int first = line, x = 0;
+        while (line < LINES && line_differs(got, wanted, line))
+            line++;
+        if (line == first) {
+            line++;
+            continue;
         }
+        count += line - first;
+        printf("  against %s: lines %d-%d differ", name, first, line - 1);
+        while (x < PIXELS && got->frame[PIXELS * first + x] == wanted->frame[PIXELS * first + x])
+            x++;
+        if (x < PIXELS)
+            printf("; line %d, column %d has colour %d, wanted %d", first, x, got->frame[PIXELS * first + x],
+                   wanted->frame[PIXELS * first + x]);
+        printf("\n");
     }
-    if (count == 0) printf("  no line differs\n");
+    if (count == 0)
+        printf("  against %s: no line differs\n", name);
     return count;
 }
 
-static struct chip bench, other;
-
-/* The picture that a scroll should leave, written afresh into another chip. */
-static void wanted_after_scroll(struct chip *c)
+/* A full draw into a second picture. It works on a copy of the chip, because it clears the map and changes status. */
+static int compare_with_full_draw(const struct chip *c, const struct picture *p)
 {
-    int row, i;
-    power_up(c);
-    open_driver(c);
-    write_from(c, NAMES);
-    for (row = 1; row <= ROWS; row++)
-        for (i = 0; i < COLUMNS; i++) data(c, row < ROWS ? picture(row, i) : 0);
-    full_draw(c);
+    static struct chip copy;
+    static struct picture whole;
+    copy = *c;
+    memset(&whole, 0xEE, sizeof whole); /* no colour and no note: every byte has to be drawn */
+    full_draw(&copy, &whole);
+    return compare(p, &whole, "a full draw");
 }
 
-static int scroll_test(const char *name, int clears_last_row)
+/* Runs a scroll from the opening on, and holds it against a chip whose names were written as they should end. */
+static int compare_scroll(const char *driver, int clear_last_row)
 {
+    static struct chip bench, right;
+    static struct picture shown, wanted;
+    int row, column;
     power_up(&bench);
-    open_driver(&bench);
-    full_draw(&bench);
-    scroll(&bench, clears_last_row);
-    printf("%s: refreshed %u lines\n", name, refresh(&bench));
-    wanted_after_scroll(&other);
-    return compare(&bench, &other);
+    open_screen(&bench);
+    full_draw(&bench, &shown);
+    scroll(&bench, clear_last_row);
+    printf("%s: refresh redrew %d lines\n", driver, refresh(&bench, &shown));
+    if (compare_with_full_draw(&bench, &shown) != 0)
+        trouble = 1;
+
+    power_up(&right);
+    open_screen(&right);
+    write_from(&right, NAMES);
+    for (row = 1; row <= ROWS; row++)
+        for (column = 0; column < COLUMNS; column++)
+            write_data(&right, row < ROWS ? name_at(row, column) : 0);
+    full_draw(&right, &wanted);
+    return compare(&shown, &wanted, "the wanted picture");
 }
 
 int main(void)
 {
+    static struct chip bench;
+    static struct picture shown;
+
     power_up(&bench);
-    open_driver(&bench);
-    printf("opening: refreshed %u lines\n", refresh(&bench));
-    printf("line 80, column 100: colour %d\n", bench.frame[256 * 80 + 100]);
+    open_screen(&bench);
+    full_draw(&bench, &shown);
+    printf("opening: line 80, column 100 has colour %d\n", shown.frame[PIXELS * 80 + 100]);
 
-    /* The driver moves its sprite and writes one name. */
-    write_from(&bench, ATTRIBUTES + 1), data(&bench, 120);
-    write_from(&bench, NAMES + 3 * COLUMNS + 7), data(&bench, 2);
-    other = bench;
-    memset(other.frame, 0xEE, sizeof other.frame);
-    memset(other.notes, 0xEE, sizeof other.notes);
-    printf("sprite and name: refreshed %u lines\n", refresh(&bench));
-    full_draw(&other);
-    trouble |= compare(&bench, &other) != 0;
-    trouble |= memcmp(bench.notes, other.notes, sizeof bench.notes) != 0;
-    trouble |= memcmp(bench.block, other.block, sizeof bench.block) != 0;
+    value(vdp_end_of_display(bench.block, sizeof bench.block));
+    if (value(vdp_interrupt_line(bench.block, sizeof bench.block)) == 1)
+        on_interrupt(&bench);
+    printf("interrupt: refresh redrew %d lines\n", refresh(&bench, &shown));
+    if (compare_with_full_draw(&bench, &shown) != 0)
+        trouble = 1;
 
-    trouble |= scroll_test("good scroll", 1) != 0;
-    trouble |= scroll_test("scroll that leaves the last row", 0) == 0;
-    printf(trouble ? "something is wrong\n" : "the fault was caught\n");
+    if (compare_scroll("right scroll", 1) != 0)
+        trouble = 1;
+    if (compare_scroll("scroll that forgets the last row", 0) == 0)
+        trouble = 1;
+    printf(trouble ? "something is wrong\n" : "the driver's fault was caught\n");
     return trouble;
 }

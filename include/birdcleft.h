@@ -1,9 +1,9 @@
-/* Birdcleft: a proved model of the TMS9918A video display processor.
+/* Birdcleft: a proved model of the TMS9918A video display processor. examples/host.c shows it in use.
  *
- * Each call takes the chip's state as a lent block of 15 bytes and answers one number: 256 times the
- * refusal number, plus the byte read (0 if none; the interrupt line as 1 or 0; of a refresh, how many
- * lines it redrew). A refused call leaves the block and every slice as they were. Slices of one call do
- * not overlap, and no pointer is null, also where a length is 0. */
+ * The caller owns every byte. Each call takes the chip's state as a lent block of 15 bytes and answers one
+ * number: 256 times the refusal number, plus the byte read (0 if none; the interrupt line as 1 or 0; of a
+ * refresh, how many lines it redrew). A refused call leaves the block and every slice as they were. Slices
+ * of one call do not overlap, and no pointer is null, also where a length is 0. */
 #ifndef BIRDCLEFT_H
 #define BIRDCLEFT_H
 
@@ -25,11 +25,14 @@ enum {
     VDP_SNAPSHOT_SIZE = 16406
 };
 
+/* How many lines a frame has. */
+enum { VDP_LINES = 192 };
+
 /* Refusal numbers. Tests run in the order 1, 2, 5, 6, 7, 3, 4. */
 enum {
     VDP_ACCEPTED = 0,
     VDP_VRAM_LENGTH = 1,     /* VRAM slice not 16,384 bytes */
-    VDP_SLICE_LENGTH = 2,    /* another slice of wrong length */
+    VDP_SLICE_LENGTH = 2,    /* another slice but the snapshot of wrong length */
     VDP_ILL_FORMED = 3,      /* the block holds no well-formed state */
     VDP_LINE_NUMBER = 4,     /* line number above 191 */
     VDP_SNAPSHOT_LENGTH = 5, /* snapshot slice not 16,406 bytes */
@@ -37,12 +40,15 @@ enum {
     VDP_CHECKSUM = 7         /* snapshot sum wrong */
 };
 
-/* The block: eight registers; the address, low byte first; the read buffer; 1 while a first control
- * byte waits, else 0; that byte, else 0; status; the redraw mark as 0 or 1. */
-
 /* The parts of an answer. */
 #define VDP_REFUSAL(answer) ((answer) / 256u)
 #define VDP_VALUE(answer) ((uint8_t)((answer) % 256u))
+
+/* The block: eight registers; the address, low byte first; the read buffer; 1 while a first control
+ * byte waits, else 0; that byte, else 0; status; the redraw mark as 0 or 1.
+ *
+ * The map: bit i mod 8, from the least significant, of byte i / 8 is set once VRAM byte i has been written
+ * through the data port. It may start with any bytes, because power-up sets the redraw mark. */
 
 /* The state becomes that of power-up, and VRAM is filled with zeros. The block may hold anything. */
 uint32_t vdp_power_up(uint8_t *block, size_t block_len, uint8_t *vram, size_t vram_len);
@@ -65,20 +71,24 @@ uint32_t vdp_end_of_display(uint8_t *block, size_t block_len);
 /* Whether the interrupt line is on. */
 uint32_t vdp_interrupt_line(const uint8_t *block, size_t block_len);
 
-/* Draws line number 0 to 191 into 256 bytes, one colour (0 to 15) each. Status follows the line. */
+/* Draws line number 0 to 191 into 256 bytes, one colour (0 to 15) each. Status follows the line; map, redraw
+ * mark and any frame stay as they are. */
 uint32_t vdp_draw_line(uint8_t *block, size_t block_len, const uint8_t *vram, size_t vram_len, uint8_t *line, size_t line_len, uint32_t number);
 
 /* A frame has lines 0 to 191 end to end. Each line has a note: the number of its fifth sprite, or 32 if
- * there is none, plus 64 if sprites coincide. */
+ * there is none, plus 64 if sprites coincide.
+ *
+ * Where the host changes VRAM itself, the map does not tell; a full draw does not need it. */
 
 /* Full draw: every line into the frame, and its note. Status follows the notes; map and redraw mark are cleared. */
 uint32_t vdp_full_draw(uint8_t *block, size_t block_len, const uint8_t *vram, size_t vram_len, uint8_t *map, size_t map_len, uint8_t *frame, size_t frame_len, uint8_t *notes, size_t notes_len);
 
-/* Refresh: as a full draw, of the lines alone that the redraw mark or the map makes due; answers how many.
- * Frame and notes are those that the last full draw or refresh left. */
+/* Refresh: redraws the lines that are due and answers how many. With the redraw mark set all are, else those
+ * that fetch a byte which the map has. Lent the frame and notes of the last full draw or refresh, it leaves what
+ * a full draw would. Status follows all notes; map and redraw mark are cleared. */
 uint32_t vdp_refresh(uint8_t *block, size_t block_len, const uint8_t *vram, size_t vram_len, uint8_t *map, size_t map_len, uint8_t *frame, size_t frame_len, uint8_t *notes, size_t notes_len);
 
-/* Reset: clears registers 0 and 1, status and the waiting byte. */
+/* Reset: clears registers 0 and 1, status and the waiting byte, and sets the redraw mark. */
 uint32_t vdp_reset(uint8_t *block, size_t block_len);
 
 /* The snapshot: VRAM; the block without its redraw mark; a trailer of eight bytes, which are 56 31 (hex),

@@ -6,11 +6,12 @@ mod timing;
 
 use difftest::library::{Calls, LIBRARY, REFERENCE};
 use difftest::show;
-use pictures::{picture, Picture, MODES, SPRITES};
+use pictures::{picture, Picture, CHANGES, MODES, SPRITES};
 use timing::{in_turn, time};
 
 const ROUNDS: usize = 2000;
 const SLOW_ROUNDS: usize = 20;
+const SHOWS: usize = 200;
 const MEMSETS: usize = 16;
 
 fn main() {
@@ -35,7 +36,6 @@ fn fill(picture: &mut Picture) {
 }
 
 /// Draws the whole picture.
-#[cfg(feature = "frame")]
 fn draw(calls: &Calls, picture: &mut Picture) {
     let Picture {
         block,
@@ -48,22 +48,8 @@ fn draw(calls: &Calls, picture: &mut Picture) {
     assert_eq!((calls.full_draw)(block, vram, map, frame, notes), 0);
 }
 
-/// Stands in for the full draw: the picture's lines one by one.
-#[cfg(not(feature = "frame"))]
-fn draw(calls: &Calls, picture: &mut Picture) {
-    let Picture { block, vram, frame, .. } = picture;
-    for (number, line) in frame.chunks_mut(256).enumerate() {
-        assert_eq!((calls.draw_line)(block, vram, line, number as u32), 0);
-    }
-}
-
 fn draw_table() {
-    let what = if cfg!(feature = "frame") {
-        "full draw"
-    } else {
-        "192 line draws (in place of a full draw)"
-    };
-    println!("{:56}{:>8}{:>9}{:>20}", format!("{what}, in memsets"), "best", "median", "reference/library");
+    println!("{:56}{:>8}{:>9}{:>20}", "full draw, in memsets", "best", "median", "reference/library");
     let mut memsets = Vec::new();
     for (mode, mode_name) in MODES.into_iter().enumerate() {
         for (sprites, sprites_name) in SPRITES.into_iter().enumerate() {
@@ -84,71 +70,84 @@ fn draw_table() {
     println!("memset of 49,152 bytes: best {best:.0} ns\n");
 }
 
-#[cfg(feature = "frame")]
+/// Refreshes after a change, and counts the lines.
+fn refresh(calls: &Calls, picture: &mut Picture, mode: usize, change: usize) {
+    picture.change(mode, change);
+    let Picture {
+        block,
+        vram,
+        map,
+        frame,
+        notes,
+        lines,
+    } = picture;
+    *lines = (calls.refresh)(block, vram, map, frame, notes);
+    assert!(*lines <= 192);
+}
+
 fn refresh_table() {
-    use pictures::CHANGES;
-    println!("refresh with 32 sprites of 16 by 16, as a part of a full draw");
-    println!("{:36}{:>6}{:>9}{:>9}", "", "lines", "best", "median");
+    let title = "refresh with 32 sprites of 16 by 16, of a full draw";
+    println!("{title:56}{:>6}{:>9}{:>9}{:>20}", "lines", "best", "median", "reference/library");
     for (mode, mode_name) in MODES.into_iter().enumerate() {
         for (change, name) in CHANGES.into_iter().enumerate() {
             let mut drawn = picture(mode, 1);
-            let refresh = |drawn: &mut Picture| {
-                drawn.change(mode, change);
-                let Picture {
-                    block,
-                    vram,
-                    map,
-                    frame,
-                    notes,
-                    lines,
-                } = drawn;
-                *lines = (LIBRARY.refresh)(block, vram, map, frame, notes);
-            };
             draw(&LIBRARY, &mut drawn);
-            let (times, whole) = in_turn(ROUNDS, &mut drawn, refresh, |drawn| draw(&LIBRARY, drawn), 1);
-            let parts = (times.best / whole.best, times.median / whole.median);
-            println!("{:36}{:>6}{:>9.4}{:>9.4}", format!("{mode_name}, {name}"), drawn.lines, parts.0, parts.1);
+            let ours = |drawn: &mut Picture| refresh(&LIBRARY, drawn, mode, change);
+            let (times, whole) = in_turn(ROUNDS, &mut drawn, ours, |drawn| draw(&LIBRARY, drawn), 1);
+            let slow = time(SLOW_ROUNDS, 1, || refresh(&REFERENCE, &mut drawn, mode, change));
+            println!(
+                "{:56}{:>6}{:>9.4}{:>9.4}{:>20.1}",
+                format!("{mode_name}, {name}"),
+                drawn.lines,
+                times.best / whole.best,
+                times.median / whole.median,
+                slow.best / times.best
+            );
         }
     }
     println!();
 }
 
-#[cfg(not(feature = "frame"))]
-fn refresh_table() {
-    println!("refresh: not there yet (feature frame)\n");
-}
-
 fn port_table() {
-    let Picture {
-        mut block,
-        mut vram,
-        mut map,
-        ..
-    } = picture(0, 0);
-    let write = time(ROUNDS, 1000, || {
-        (LIBRARY.data_write)(&mut block, &mut vram, &mut map, 0x55);
-    });
-    let pair = time(ROUNDS, 1000, || {
-        (LIBRARY.control_write)(&mut block, &vram, 0x34);
-        (LIBRARY.control_write)(&mut block, &vram, 0x52);
-    });
-    println!("{:30}{:>9}{:>9}", "ports, in nanoseconds", "best", "median");
-    println!("{:30}{:>9.1}{:>9.1}", "data write", write.best, write.median);
-    println!("{:30}{:>9.1}{:>9.1}\n", "pair of control writes", pair.best, pair.median);
+    println!("{:56}{:>8}{:>9}{:>20}", "ports, in nanoseconds", "best", "median", "reference/library");
+    for (name, port) in [
+        ("data write", data_write as Port),
+        ("pair of control writes", control_pair),
+    ] {
+        let mut lent = picture(0, 0);
+        let times = time(ROUNDS, 1000, || port(&LIBRARY, &mut lent));
+        let slow = time(ROUNDS, 100, || port(&REFERENCE, &mut lent));
+        println!("{name:56}{:>8.1}{:>9.1}{:>20.1}", times.best, times.median, slow.best / times.best);
+    }
+    println!();
 }
 
-/// The whole program: its start, reading, drawing and printing.
+type Port = fn(&Calls, &mut Picture);
+
+fn data_write(calls: &Calls, lent: &mut Picture) {
+    (calls.data_write)(&mut lent.block, &mut lent.vram, &mut lent.map, 0x55);
+}
+
+fn control_pair(calls: &Calls, lent: &mut Picture) {
+    (calls.control_write)(&mut lent.block, &lent.vram, 0x34);
+    (calls.control_write)(&mut lent.block, &lent.vram, 0x52);
+}
+
+const SAMPLES: [&str; 4] = ["graphics1", "graphics2", "multicolor", "text"];
+
+/// The whole program: its start, reading, drawing and printing. A refused input has the start alone.
 fn show_table() {
-    if !show::is_there() {
-        println!("show: not built");
-        return;
+    println!("{:56}{:>8}{:>9}", "show, in milliseconds", "best", "median");
+    for name in SAMPLES {
+        let path = format!("{}/../samples/{name}.snap", env!("CARGO_MANIFEST_DIR"));
+        let snapshot = std::fs::read(&path).unwrap_or_else(|error| panic!("{path}: {error}"));
+        assert_eq!(snapshot.len(), 16406, "{path}");
+        show_row(&format!("samples/{name}.snap"), &snapshot);
     }
-    println!("{:30}{:>9}{:>9}", "show, in milliseconds", "best", "median");
-    for (mode, name) in MODES.into_iter().enumerate() {
-        let Picture { block, vram, .. } = picture(mode, 1);
-        let mut snapshot = vec![0; 16406];
-        assert_eq!((LIBRARY.write_snapshot)(&block, &vram, &mut snapshot), 0);
-        let times = time(SLOW_ROUNDS, 1, || assert!(show::text(&snapshot).is_ok()));
-        println!("{:30}{:>9.2}{:>9.2}", format!("{name}, 32 sprites"), times.best / 1e6, times.median / 1e6);
-    }
+    show_row("nothing, refused", &[]);
+}
+
+fn show_row(name: &str, input: &[u8]) {
+    let times = time(SHOWS, 1, || assert!(show::text(input).is_ok()));
+    println!("{name:56}{:>8.2}{:>9.2}", times.best / 1e6, times.median / 1e6);
 }

@@ -4,7 +4,6 @@ use difftest::random::Random;
 
 pub const MODES: [&str; 4] = ["Graphics I", "Graphics II", "Multicolor", "Text"];
 pub const SPRITES: [&str; 3] = ["no sprites", "32 sprites of 16 by 16", "a heap of magnified sprites"];
-#[cfg(feature = "frame")]
 pub const CHANGES: [&str; 5] = [
     "nothing",
     "one name",
@@ -24,13 +23,10 @@ const REGISTERS: [[u8; 8]; 4] = [
 pub struct Picture {
     pub block: Vec<u8>,
     pub vram: Vec<u8>,
-    #[cfg_attr(not(feature = "frame"), allow(dead_code))]
     pub map: Vec<u8>,
     pub frame: Vec<u8>,
-    #[cfg_attr(not(feature = "frame"), allow(dead_code))]
     pub notes: Vec<u8>,
     /// What the last refresh answered.
-    #[cfg_attr(not(feature = "frame"), allow(dead_code))]
     pub lines: u32,
 }
 
@@ -64,7 +60,6 @@ pub fn picture(mode: usize, sprites: usize) -> Picture {
     }
 }
 
-#[cfg(feature = "frame")]
 impl Picture {
     /// What a driver would have changed since the last refresh.
     pub fn change(&mut self, mode: usize, change: usize) {

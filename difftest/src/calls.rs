@@ -3,9 +3,6 @@
 use crate::library::{Calls, LIBRARY, REFERENCE};
 use crate::show;
 
-/// Whether full draw and refresh are there.
-pub const FRAME: bool = cfg!(feature = "frame");
-
 /// What can be lent.
 #[derive(Clone, Copy, Debug, PartialEq, Eq)]
 pub enum Slice {
@@ -208,13 +205,19 @@ impl Side {
         &mut self.bytes[place][GUARD..GUARD + SLICES[place].2]
     }
 
-    /// Makes the call and gives its answer; the host's own doing answers 0.
-    fn make(&mut self, calls: &Calls, step: &Step) -> u32 {
-        let block = self.slice(Slice::Block);
-        let before = block.to_vec();
+    /// The block as the call is lent it.
+    fn lent_block(&mut self, step: &Step) -> Vec<u8> {
+        let mut block = self.slice(Slice::Block).to_vec();
         for &(at, byte) in &step.spoil {
             block[at] = byte;
         }
+        block
+    }
+
+    /// Makes the call and gives its answer; the host's own doing answers 0.
+    fn make(&mut self, calls: &Calls, step: &Step) -> u32 {
+        let (before, lent) = (self.slice(Slice::Block).to_vec(), self.lent_block(step));
+        self.slice(Slice::Block).copy_from_slice(&lent);
         let answer = self.lend(calls, step);
         if answer >= 256 {
             for &(at, _) in &step.spoil {
@@ -244,15 +247,8 @@ impl Side {
             Call::DrawLine(number) => (calls.draw_line)(block, vram, line, number),
             Call::ReadSnapshot => (calls.read_snapshot)(block, vram, snapshot),
             Call::WriteSnapshot => (calls.write_snapshot)(block, vram, snapshot),
-            #[cfg(feature = "frame")]
             Call::FullDraw => (calls.full_draw)(block, vram, map, frame, notes),
-            #[cfg(feature = "frame")]
             Call::Refresh => (calls.refresh)(block, vram, map, frame, notes),
-            #[cfg(not(feature = "frame"))]
-            Call::FullDraw | Call::Refresh => {
-                let _ = (frame, notes);
-                0
-            }
             Call::Show => 0,
             Call::PutStatus(byte) => {
                 block[13] = byte;
@@ -277,7 +273,7 @@ impl Side {
 pub struct Reached {
     /// Answers of each call by refusal number.
     pub answers: [[u64; 8]; NAMES.len()],
-    /// Lines drawn that turned 5S or C on.
+    /// Draws that turned 5S or C on.
     pub fifth: u64,
     pub coincidence: u64,
     /// Refreshes by what they redrew: nothing, some lines, all.
@@ -296,14 +292,17 @@ pub struct Difference {
 /// Runs a case on both sides.
 pub fn run(case: &Case, reached: &mut Reached) -> Result<(), Difference> {
     let (mut library, mut second) = (Side::new(case), Side::new(case));
-    // With the mark set at the start the frame follows VRAM from the first refresh on.
-    let follows = case.block[14] == 1;
+    // The start's frame is foreign. It follows VRAM from the first full draw on, or the first
+    // refresh with the mark set.
+    let mut follows = false;
     for (at, step) in case.steps.iter().enumerate() {
-        let before = Before::of(&mut library, step);
+        let before = library.lent_block(step);
         let (answer, expected) = (library.make(&LIBRARY, step), second.make(&REFERENCE, step));
         let mut found = compare(answer, expected, &library, &second);
-        if found.is_none() && follows && step.call == Call::Refresh && answer < 256 {
-            found = full_draw_differs(&before, &mut library, reached);
+        let refreshed = step.call == Call::Refresh && answer < 256;
+        follows |= step.call == Call::FullDraw && answer < 256 || refreshed && before[14] == 1;
+        if found.is_none() && follows && refreshed {
+            found = full_draw_differs(before.clone(), &mut library, reached);
         }
         if found.is_none() && step.call == Call::Show {
             let input = &library.bytes[Slice::Snapshot as usize][GUARD..GUARD + step.length(Slice::Snapshot)];
@@ -312,7 +311,7 @@ pub fn run(case: &Case, reached: &mut Reached) -> Result<(), Difference> {
         if let Some(what) = found {
             return Err(Difference { step: at, what });
         }
-        count(step, answer, before.status, library.slice(Slice::Block)[13], reached);
+        count(step, answer, before[13], library.slice(Slice::Block)[13], reached);
     }
     Ok(())
 }
@@ -340,32 +339,13 @@ fn compare(answer: u32, expected: u32, library: &Side, second: &Side) -> Option<
     None
 }
 
-/// What a refresh is held against later.
-struct Before {
-    status: u8,
-    #[cfg_attr(not(feature = "frame"), allow(dead_code))]
-    block: Vec<u8>,
-}
-
-impl Before {
-    fn of(side: &mut Side, step: &Step) -> Before {
-        let mut block = side.slice(Slice::Block).to_vec();
-        for &(at, byte) in &step.spoil {
-            block[at] = byte;
-        }
-        Before {
-            status: block[13],
-            block,
-        }
+/// A full draw into other buffers, from the block before the refresh.
+fn full_draw_differs(mut block: Vec<u8>, after: &mut Side, reached: &mut Reached) -> Option<String> {
+    let (mut map, mut frame, mut notes) = (vec![FOREIGN; 2048], vec![FOREIGN; 49152], vec![FOREIGN; 192]);
+    let answer = (LIBRARY.full_draw)(&mut block, after.slice(Slice::Vram), &mut map, &mut frame, &mut notes);
+    if answer != 0 {
+        return Some(format!("a full draw beside the refresh answers {answer}"));
     }
-}
-
-/// A full draw into other buffers, from the state before the refresh.
-#[cfg(feature = "frame")]
-fn full_draw_differs(before: &Before, after: &mut Side, reached: &mut Reached) -> Option<String> {
-    let (mut block, mut map) = (before.block.clone(), vec![FOREIGN; 2048]);
-    let (mut frame, mut notes) = (vec![FOREIGN; 49152], vec![FOREIGN; 192]);
-    (LIBRARY.full_draw)(&mut block, after.slice(Slice::Vram), &mut map, &mut frame, &mut notes);
     reached.full_draws += 1;
     for (whole, slice) in [
         (block, Slice::Block),
@@ -385,16 +365,11 @@ fn full_draw_differs(before: &Before, after: &mut Side, reached: &mut Reached) -
     None
 }
 
-#[cfg(not(feature = "frame"))]
-fn full_draw_differs(_: &Before, _: &mut Side, _: &mut Reached) -> Option<String> {
-    None
-}
-
 fn count(step: &Step, answer: u32, before: u8, after: u8, reached: &mut Reached) {
     if let Some(place) = step.call.place() {
         reached.answers[place][(answer / 256).min(7) as usize] += 1;
     }
-    if let Call::DrawLine(_) = step.call {
+    if let Call::DrawLine(_) | Call::FullDraw | Call::Refresh = step.call {
         let turned_on = after & !before;
         reached.fifth += u64::from(turned_on & 0x40 != 0);
         reached.coincidence += u64::from(turned_on & 0x20 != 0);

@@ -29,27 +29,6 @@ mod c {
             line_len: usize,
             number: u32,
         ) -> u32;
-        pub fn vdp_reset(block: *mut u8, block_len: usize) -> u32;
-        pub fn vdp_read_snapshot(
-            block: *mut u8,
-            block_len: usize,
-            vram: *mut u8,
-            vram_len: usize,
-            snapshot: *const u8,
-            snapshot_len: usize,
-        ) -> u32;
-        pub fn vdp_write_snapshot(
-            block: *const u8,
-            block_len: usize,
-            vram: *const u8,
-            vram_len: usize,
-            snapshot: *mut u8,
-            snapshot_len: usize,
-        ) -> u32;
-    }
-
-    #[cfg(feature = "frame")]
-    extern "C" {
         pub fn vdp_full_draw(
             block: *mut u8,
             block_len: usize,
@@ -74,8 +53,28 @@ mod c {
             notes: *mut u8,
             notes_len: usize,
         ) -> u32;
+        pub fn vdp_reset(block: *mut u8, block_len: usize) -> u32;
+        pub fn vdp_read_snapshot(
+            block: *mut u8,
+            block_len: usize,
+            vram: *mut u8,
+            vram_len: usize,
+            snapshot: *const u8,
+            snapshot_len: usize,
+        ) -> u32;
+        pub fn vdp_write_snapshot(
+            block: *const u8,
+            block_len: usize,
+            vram: *const u8,
+            vram_len: usize,
+            snapshot: *mut u8,
+            snapshot_len: usize,
+        ) -> u32;
     }
 }
+
+/// A draw of a whole picture: block, VRAM, map, frame and notes.
+pub type Draw = fn(&mut [u8], &[u8], &mut [u8], &mut [u8], &mut [u8]) -> u32;
 
 /// One side's calls.
 pub struct Calls {
@@ -87,13 +86,11 @@ pub struct Calls {
     pub end_of_display: fn(&mut [u8]) -> u32,
     pub interrupt_line: fn(&[u8]) -> u32,
     pub draw_line: fn(&mut [u8], &[u8], &mut [u8], u32) -> u32,
+    pub full_draw: Draw,
+    pub refresh: Draw,
     pub reset: fn(&mut [u8]) -> u32,
     pub read_snapshot: fn(&mut [u8], &mut [u8], &[u8]) -> u32,
     pub write_snapshot: fn(&[u8], &[u8], &mut [u8]) -> u32,
-    #[cfg(feature = "frame")]
-    pub full_draw: fn(&mut [u8], &[u8], &mut [u8], &mut [u8], &mut [u8]) -> u32,
-    #[cfg(feature = "frame")]
-    pub refresh: fn(&mut [u8], &[u8], &mut [u8], &mut [u8], &mut [u8]) -> u32,
 }
 
 pub const REFERENCE: Calls = Calls {
@@ -105,13 +102,11 @@ pub const REFERENCE: Calls = Calls {
     end_of_display: second::vdp_end_of_display,
     interrupt_line: second::vdp_interrupt_line,
     draw_line: second::vdp_draw_line,
+    full_draw: second::vdp_full_draw,
+    refresh: second::vdp_refresh,
     reset: second::vdp_reset,
     read_snapshot: second::vdp_read_snapshot,
     write_snapshot: second::vdp_write_snapshot,
-    #[cfg(feature = "frame")]
-    full_draw: second::vdp_full_draw,
-    #[cfg(feature = "frame")]
-    refresh: second::vdp_refresh,
 };
 
 pub const LIBRARY: Calls = Calls {
@@ -123,13 +118,11 @@ pub const LIBRARY: Calls = Calls {
     end_of_display,
     interrupt_line,
     draw_line,
+    full_draw,
+    refresh,
     reset,
     read_snapshot,
     write_snapshot,
-    #[cfg(feature = "frame")]
-    full_draw,
-    #[cfg(feature = "frame")]
-    refresh,
 };
 
 // Safety, for every call below: each pointer comes with its slice's length, and borrowing keeps
@@ -187,6 +180,40 @@ fn draw_line(block: &mut [u8], vram: &[u8], line: &mut [u8], number: u32) -> u32
     }
 }
 
+fn full_draw(block: &mut [u8], vram: &[u8], map: &mut [u8], frame: &mut [u8], notes: &mut [u8]) -> u32 {
+    unsafe {
+        c::vdp_full_draw(
+            block.as_mut_ptr(),
+            block.len(),
+            vram.as_ptr(),
+            vram.len(),
+            map.as_mut_ptr(),
+            map.len(),
+            frame.as_mut_ptr(),
+            frame.len(),
+            notes.as_mut_ptr(),
+            notes.len(),
+        )
+    }
+}
+
+fn refresh(block: &mut [u8], vram: &[u8], map: &mut [u8], frame: &mut [u8], notes: &mut [u8]) -> u32 {
+    unsafe {
+        c::vdp_refresh(
+            block.as_mut_ptr(),
+            block.len(),
+            vram.as_ptr(),
+            vram.len(),
+            map.as_mut_ptr(),
+            map.len(),
+            frame.as_mut_ptr(),
+            frame.len(),
+            notes.as_mut_ptr(),
+            notes.len(),
+        )
+    }
+}
+
 fn reset(block: &mut [u8]) -> u32 {
     unsafe { c::vdp_reset(block.as_mut_ptr(), block.len()) }
 }
@@ -213,42 +240,6 @@ fn write_snapshot(block: &[u8], vram: &[u8], snapshot: &mut [u8]) -> u32 {
             vram.len(),
             snapshot.as_mut_ptr(),
             snapshot.len(),
-        )
-    }
-}
-
-#[cfg(feature = "frame")]
-fn full_draw(block: &mut [u8], vram: &[u8], map: &mut [u8], frame: &mut [u8], notes: &mut [u8]) -> u32 {
-    unsafe {
-        c::vdp_full_draw(
-            block.as_mut_ptr(),
-            block.len(),
-            vram.as_ptr(),
-            vram.len(),
-            map.as_mut_ptr(),
-            map.len(),
-            frame.as_mut_ptr(),
-            frame.len(),
-            notes.as_mut_ptr(),
-            notes.len(),
-        )
-    }
-}
-
-#[cfg(feature = "frame")]
-fn refresh(block: &mut [u8], vram: &[u8], map: &mut [u8], frame: &mut [u8], notes: &mut [u8]) -> u32 {
-    unsafe {
-        c::vdp_refresh(
-            block.as_mut_ptr(),
-            block.len(),
-            vram.as_ptr(),
-            vram.len(),
-            map.as_mut_ptr(),
-            map.len(),
-            frame.as_mut_ptr(),
-            frame.len(),
-            notes.as_mut_ptr(),
-            notes.len(),
         )
     }
 }

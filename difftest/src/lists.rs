@@ -1,11 +1,11 @@
 //! Random cases: states drawn line by line, and long lists of calls.
 
-use crate::calls::{Call, Case, Slice, Step, FRAME, GUARD, SLICES};
+use crate::calls::{Call, Case, Slice, Step, GUARD, SLICES};
 use crate::random::Random;
 use crate::scenes::{scene, status, KINDS, MASKS, MODES};
 
-/// One state: all its lines, its full draw, its snapshot and show's text. Half of the states keep
-/// status from line to line; the others set it anew for each.
+/// One state: all its lines, its snapshot and show's text, and its frame, notes and status after a
+/// full draw. Half of the states keep status from line to line; the others set it anew for each.
 pub fn state_case(seed: u64, number: u64) -> Case {
     let mut random = Random::new(seed, 2 * number);
     let (mode, kind) = place(number);
@@ -22,16 +22,18 @@ pub fn state_case(seed: u64, number: u64) -> Case {
         }
         steps.push(Call::DrawLine(line).into());
     }
-    steps.push(Call::PutStatus(before).into());
-    steps.push(Call::WriteSnapshot.into());
-    if number % 8 == 0 {
-        steps.push(Call::Show.into());
-    }
-    if FRAME {
-        // Refresh with any map, then whole, then refresh with nothing to do.
-        let calls = [Call::Refresh, Call::PutStatus(before), Call::FullDraw, Call::Refresh];
-        steps.extend(calls.into_iter().map(Step::from));
-    }
+    let calls = [
+        Call::PutStatus(before),
+        Call::WriteSnapshot,
+        Call::Show,
+        // With any map, over a foreign frame and foreign notes.
+        Call::Refresh,
+        Call::PutStatus(before),
+        Call::FullDraw,
+        // With nothing to do.
+        Call::Refresh,
+    ];
+    steps.extend(calls.into_iter().map(Step::from));
     Case {
         block,
         vram,
@@ -78,8 +80,7 @@ pub fn list_case(seed: u64, number: u64) -> Case {
     let mode = random.pick(&[0, 0, 0, 1, 1, 1, 2, 2, 3, 4, 5]);
     let kind = random.below(KINDS.len());
     let (mut block, vram) = scene(&mut random, mode, kind);
-    // Without full draw and refresh nothing clears the mark later.
-    block[14] = u8::from(!random.one_in(if FRAME { 8 } else { 2 }));
+    block[14] = u8::from(!random.one_in(8));
     let map = some_map(&mut random);
     let notes = some_notes(&mut random);
     let mut maker = Maker {
@@ -129,9 +130,8 @@ impl Maker {
             135 => self.restart(),
             136..=147 => self.line(),
             148..=157 => self.snapshot(),
-            158..=159 if FRAME => self.push(Call::FullDraw),
-            160..=199 if FRAME => self.push(Call::Refresh),
-            _ => self.line(),
+            158..=159 => self.push(Call::FullDraw),
+            _ => self.push(Call::Refresh),
         }
     }
 
@@ -188,16 +188,23 @@ impl Maker {
     /// An address in one of the tables, or anywhere.
     fn address(&mut self) -> usize {
         let of = |register: usize| usize::from(self.registers[register]);
-        let (names, colours, patterns) = (of(2) * 1024, of(3) * 64, of(4) * 2048);
-        let (attributes, sprites) = (of(5) * 128, of(6) * 2048);
-        let (start, length) = match self.random.below(12) {
-            0..=4 => (attributes, 128),
-            5 => (attributes, 16),
-            6 => (names, 960),
-            7 => (colours, 32),
-            8 => (patterns, 2048),
-            9 => (sprites, 2048),
-            10 => (16380, 8),
+        let (names, attributes, sprites) = (of(2) * 1024, of(5) * 128, of(6) * 2048);
+        let (colours, patterns) = if of(0) & 2 == 0 {
+            ((of(3) * 64, 32), (of(4) * 2048, 2048))
+        } else {
+            // Graphics II.
+            ((of(3) / 128 * 8192, 6144), (of(4) / 4 * 8192, 6144))
+        };
+        let sprite = self.random.below(32);
+        let (start, length) = match self.random.below(16) {
+            0..=3 => (attributes, 128),
+            // X, name and colour byte: of few lines, where a Y is of nearly all.
+            4..=6 => (attributes + 4 * sprite + 1, 3),
+            7..=8 => (names, 960),
+            9 => colours,
+            10..=11 => patterns,
+            12..=13 => (sprites, 2048),
+            14 => (16380, 8),
             _ => (0, 16384),
         };
         (start + self.random.below(length)) % 16384
@@ -248,7 +255,7 @@ impl Maker {
             self.push(Call::Reset);
             self.registers[0] = 0;
         }
-        if FRAME && self.random.one_in(4) {
+        if self.random.one_in(4) {
             self.push(Call::Refresh);
         }
         let byte = 0x40 | self.random.byte() & 0xE3;

@@ -1,20 +1,20 @@
 //! difftest [--seed N] [--first N] [--cases N] [--faults | --gate]
 //!
 //! Compares N states, from the first on, and a tenth as many lists of calls; without --cases a fixed
-//! number that ends within about two minutes. --faults plants each of the reference's faults in turn
-//! and wants it found; --gate does both.
+//! number, and no more than two minutes. --faults plants each of the reference's faults in turn and
+//! wants it found; --gate does both.
 
-use difftest::calls::{run, Case, Reached, FRAME, NAMES};
+use difftest::calls::{run, Case, Reached, NAMES};
 use difftest::lists::{list_case, place, state_case};
 use difftest::scenes::{KINDS, MODES};
-use difftest::{show, shrink};
+use difftest::shrink;
 use reference::faults;
 use std::time::{Duration, Instant};
 
 const SEED: u64 = 9918;
-const CASES: u64 = 9600;
+const CASES: u64 = 12000;
 /// No longer than this where no number of cases was asked for.
-const LIMIT: Duration = Duration::from_secs(150);
+const LIMIT: Duration = Duration::from_secs(120);
 /// So many failures are printed; the others are only counted.
 const PRINTED: u64 = 3;
 
@@ -73,45 +73,94 @@ fn options() -> Result<Options, String> {
     Ok(options)
 }
 
-/// The cases in order, a list after every ten states.
-fn cases(options: &Options) -> impl Iterator<Item = (u64, String, Case)> {
-    let seed = options.seed;
-    (options.first..options.first + options.cases).flat_map(move |number| {
-        let (mode, kind) = place(number);
-        let state = (number, format!("state {number} ({}, {})", MODES[mode], KINDS[kind]), state_case(seed, number));
-        let list = if number % 10 == 9 {
-            Some((number, format!("list {}", number / 10), list_case(seed, number / 10)))
-        } else {
-            None
+/// A state or a list by its number.
+#[derive(Clone, Copy)]
+enum Numbered {
+    State(u64),
+    List(u64),
+}
+
+impl Numbered {
+    fn case(self, seed: u64) -> Case {
+        match self {
+            Numbered::State(number) => state_case(seed, number),
+            Numbered::List(number) => list_case(seed, number),
+        }
+    }
+
+    /// The words that run it again; a list comes after its ten states.
+    fn alone(self, seed: u64) -> String {
+        let first = match self {
+            Numbered::State(number) => number,
+            Numbered::List(number) => 10 * number + 9,
         };
-        std::iter::once(state).chain(list)
+        format!("--seed {seed} --first {first} --cases 1")
+    }
+}
+
+impl std::fmt::Display for Numbered {
+    fn fmt(&self, f: &mut std::fmt::Formatter<'_>) -> std::fmt::Result {
+        match *self {
+            Numbered::State(number) => {
+                let (mode, kind) = place(number);
+                write!(f, "state {number} ({}, {})", MODES[mode], KINDS[kind])
+            }
+            Numbered::List(number) => write!(f, "list {number}"),
+        }
+    }
+}
+
+/// What is to be compared, in order: a list after every ten states.
+fn in_order(options: &Options) -> impl Iterator<Item = Numbered> {
+    (options.first..options.first + options.cases).flat_map(|number| {
+        let list = (number % 10 == 9).then_some(Numbered::List(number / 10));
+        std::iter::once(Numbered::State(number)).chain(list)
     })
 }
 
+/// How many were compared.
+#[derive(Default)]
+struct Compared {
+    states: [u64; MODES.len()],
+    lists: u64,
+}
+
+impl Compared {
+    fn count(&mut self, numbered: Numbered) {
+        match numbered {
+            Numbered::State(number) => self.states[place(number).0] += 1,
+            Numbered::List(_) => self.lists += 1,
+        }
+    }
+}
+
 fn compare(options: &Options, passed: &mut u64, failed: &mut u64) {
-    let mut reached = Reached::default();
+    let (mut compared, mut reached) = (Compared::default(), Reached::default());
     let start = Instant::now();
-    for (number, name, case) in cases(options) {
+    let mut whole = true;
+    for numbered in in_order(options) {
         if options.limit.map_or(false, |limit| start.elapsed() > limit) {
-            println!("stopped at {name}: {} seconds are over", LIMIT.as_secs());
+            println!("stopped at {numbered}: {} seconds are over", LIMIT.as_secs());
+            whole = false;
             break;
         }
+        let case = numbered.case(options.seed);
+        compared.count(numbered);
         match run(&case, &mut reached) {
             Ok(()) => *passed += 1,
             Err(difference) => {
                 *failed += 1;
                 if *failed <= PRINTED {
-                    let (seed, call) = (options.seed, difference.step + 1);
-                    println!("FAILED: {name}: after call {call}, {}", difference.what);
-                    println!("  alone: --seed {seed} --first {number} --cases 1; made small:");
+                    println!("FAILED: {numbered}: after call {}, {}", difference.step + 1, difference.what);
+                    println!("  alone: {}; made small:", numbered.alone(options.seed));
                     print(&shrink::shrink(&case));
                 }
             }
         }
     }
-    summary(options, &reached);
+    summary(options, &compared, &reached);
     // A short run need not reach everything.
-    if options.cases >= CASES {
+    if whole && options.cases >= CASES {
         for what in missed(&reached) {
             println!("FAILED: never reached: {what}");
             *failed += 1;
@@ -154,9 +203,15 @@ fn hex(bytes: &[u8]) -> String {
         .join(" ")
 }
 
-fn summary(options: &Options, reached: &Reached) {
-    let (first, end) = (options.first, options.first + options.cases);
-    println!("seed {}, {} states, {} lists", options.seed, options.cases, end / 10 - first / 10);
+fn summary(options: &Options, compared: &Compared, reached: &Reached) {
+    let states: u64 = compared.states.iter().sum();
+    println!("seed {}, {states} states, {} lists", options.seed, compared.lists);
+    let modes: Vec<String> = MODES
+        .iter()
+        .zip(compared.states)
+        .map(|(name, count)| format!("{name} {count}"))
+        .collect();
+    println!("states: {}", modes.join(", "));
     println!("{:16}{:>10}   refused 1 to 7", "call", "accepted");
     for (name, answers) in NAMES.iter().zip(reached.answers) {
         if answers.iter().any(|&count| count > 0) {
@@ -165,20 +220,12 @@ fn summary(options: &Options, reached: &Reached) {
         }
     }
     println!("draws that turned 5S on: {}, C on: {}", reached.fifth, reached.coincidence);
-    if FRAME {
-        let [nothing, some, all] = reached.refreshes;
-        println!(
-            "refreshes of no line: {nothing}, of some: {some}, of all: {all}; against a full draw: {}",
-            reached.full_draws
-        );
-    } else {
-        println!("full draw and refresh are off (feature frame)");
-    }
-    if show::is_there() {
-        println!("show's texts: {}", reached.shown);
-    } else {
-        println!("show is not built");
-    }
+    let [nothing, some, all] = reached.refreshes;
+    println!(
+        "refreshes of no line: {nothing}, of some: {some}, of all: {all}; against a full draw: {}",
+        reached.full_draws
+    );
+    println!("show's texts: {}", reached.shown);
 }
 
 /// What each call can be refused with; 0 stands for accepted.
@@ -201,20 +248,18 @@ const REFUSALS: [&[usize]; NAMES.len()] = [
 fn missed(reached: &Reached) -> Vec<String> {
     let mut missed = Vec::new();
     for (place, numbers) in REFUSALS.into_iter().enumerate() {
-        let off = !FRAME && (NAMES[place] == "full_draw" || NAMES[place] == "refresh");
-        for &number in numbers
-            .iter()
-            .filter(|&&number| !off && reached.answers[place][number] == 0)
-        {
+        for &number in numbers.iter().filter(|&&number| reached.answers[place][number] == 0) {
             missed.push(format!("vdp_{} answering {number}", NAMES[place]));
         }
     }
     let some = [
         (reached.fifth, "5S turned on"),
         (reached.coincidence, "C turned on"),
-        (if FRAME { reached.refreshes[0] } else { 1 }, "a refresh of no line"),
-        (if FRAME { reached.refreshes[1] } else { 1 }, "a refresh of some lines"),
-        (if FRAME { reached.refreshes[2] } else { 1 }, "a refresh of all lines"),
+        (reached.refreshes[0], "a refresh of no line"),
+        (reached.refreshes[1], "a refresh of some lines"),
+        (reached.refreshes[2], "a refresh of all lines"),
+        (reached.full_draws, "a full draw after a refresh"),
+        (reached.shown, "a text of show"),
     ];
     missed.extend(
         some.into_iter()
@@ -228,18 +273,16 @@ fn missed(reached: &Reached) -> Vec<String> {
 fn plant_all(options: &Options, passed: &mut u64, failed: &mut u64) {
     for number in 1..=faults::LAST {
         let name = faults::NAMES[number as usize - 1];
-        if !FRAME && (number == faults::OFF_SIDE_NOT_FETCHED || number == faults::FIFTH_FROM_REDRAWN) {
-            println!("fault {number}, {name}: skipped, needs refresh");
-            continue;
-        }
         faults::plant(number);
-        let found = cases(options).find(|(_, _, case)| run(case, &mut Reached::default()).is_err());
+        let start = Instant::now();
+        let found = in_order(options)
+            .take_while(|_| options.limit.map_or(true, |limit| start.elapsed() < limit))
+            .find(|numbered| run(&numbered.case(options.seed), &mut Reached::default()).is_err());
         match found {
-            Some((_, by, case)) => {
+            Some(numbered) => {
                 *passed += 1;
-                let small = shrink::shrink(&case);
-                println!("fault {number}, {name}: found by {by}");
-                print(&small);
+                println!("fault {number}, {name}: found by {numbered}, {}", numbered.alone(options.seed));
+                print(&shrink::shrink(&numbered.case(options.seed)));
             }
             None => {
                 *failed += 1;

@@ -22,9 +22,31 @@ pub const READ_DOES_NOT_WRAP: u32 = 8;
 pub const THIRDS_FORGOTTEN: u32 = 9;
 /// Sprites of colour 0 do not take part in coincidence.
 pub const ONLY_COLOURED_COINCIDE: u32 = 10;
+/// A cell's colour byte is not among the fetches.
+pub const COLOUR_NOT_FETCHED: u32 = 11;
+/// The byte of a sprite's right half is not among the fetches.
+pub const RIGHT_HALF_NOT_FETCHED: u32 = 12;
+/// The Y of the fifth sprite is not among the fetches.
+pub const FIFTH_NOT_FETCHED: u32 = 13;
+/// Data write leaves the map alone when the byte is there already.
+pub const EQUAL_WRITE_FORGETS_MAP: u32 = 14;
+/// Refresh leaves the redraw mark set.
+pub const REFRESH_KEEPS_MARK: u32 = 15;
+/// Refresh leaves the map as it was.
+pub const REFRESH_KEEPS_MAP: u32 = 16;
+/// Refresh answers how many lines look different now.
+pub const COUNT_OF_CHANGED: u32 = 17;
+/// Refresh redraws every line and counts the due ones.
+pub const ALL_REDRAWN: u32 = 18;
+/// Refresh redraws only with the mark set; else it only counts.
+pub const REFRESH_ONLY_COUNTS: u32 = 19;
+/// Refresh redraws a line and leaves its note.
+pub const NOTE_NOT_WRITTEN: u32 = 20;
+/// Full draw leaves the map as it was.
+pub const FULL_DRAW_KEEPS_MAP: u32 = 21;
 
 /// The highest fault number.
-pub const LAST: u32 = 10;
+pub const LAST: u32 = 21;
 
 /// A few words for each fault, from 1 up.
 pub const NAMES: [&str; LAST as usize] = [
@@ -38,6 +60,17 @@ pub const NAMES: [&str; LAST as usize] = [
     "a data read does not wrap",
     "Graphics II forgets its thirds",
     "only coloured sprites coincide",
+    "a cell's colour is not fetched",
+    "the right half of a sprite is not fetched",
+    "the fifth sprite's Y is not fetched",
+    "a write of an equal byte leaves the map",
+    "a refresh leaves the redraw mark",
+    "a refresh leaves the map",
+    "a refresh counts the lines that changed",
+    "a refresh redraws every line",
+    "a refresh without the mark only counts",
+    "a refresh leaves the notes",
+    "a full draw leaves the map",
 ];
 
 thread_local! {

@@ -59,7 +59,9 @@ pub fn full_draw(
         let note = write_line(state, vram, frame, notes, number);
         state.status = status_after(state.status, note);
     }
-    map.fill(0);
+    if !planted(faults::FULL_DRAW_KEEPS_MAP) {
+        map.fill(0);
+    }
     state.redraw = false;
     Answer::accepted(0)
 }
@@ -96,13 +98,36 @@ pub fn refresh(
     for (number, due) in due.iter_mut().enumerate() {
         *due = is_due(state, vram, map, number);
     }
-    for number in (0..LINES).filter(|&number| due[number]) {
+    let before = (frame.to_vec(), notes.to_vec());
+    for number in (0..LINES).filter(|&number| is_redrawn(state, due[number])) {
         write_line(state, vram, frame, notes, number);
     }
+    if planted(faults::NOTE_NOT_WRITTEN) {
+        notes.copy_from_slice(&before.1);
+    }
     state.status = status_from_notes(state.status, notes, &due);
-    map.fill(0);
-    state.redraw = false;
-    Answer::accepted(due.into_iter().filter(|&due| due).count() as u8)
+    if !planted(faults::REFRESH_KEEPS_MAP) {
+        map.fill(0);
+    }
+    state.redraw = state.redraw && planted(faults::REFRESH_KEEPS_MARK);
+    let count = if planted(faults::COUNT_OF_CHANGED) {
+        let (old, new) = (before.0.chunks(LINE_BYTES), frame.chunks(LINE_BYTES));
+        old.zip(new).filter(|(old, new)| old != new).count()
+    } else {
+        due.into_iter().filter(|&due| due).count()
+    };
+    Answer::accepted(count as u8)
+}
+
+/// A line is redrawn when it is due, but for two of the planted mistakes.
+fn is_redrawn(state: &State, due: bool) -> bool {
+    if planted(faults::ALL_REDRAWN) {
+        true
+    } else if planted(faults::REFRESH_ONLY_COUNTS) {
+        state.redraw
+    } else {
+        due
+    }
 }
 
 /// Status goes through the notes of all lines in order, redrawn or kept.

@@ -201,7 +201,9 @@ pub fn fetches(state: &State, vram: &[u8], line: u8) -> BTreeSet<usize> {
         let cell = cell(state, vram, mode, line.into(), number);
         all.insert(cell.name_at);
         all.insert(cell.pattern_at);
-        all.extend(cell.colour_at);
+        if !planted(faults::COLOUR_NOT_FETCHED) {
+            all.extend(cell.colour_at);
+        }
     }
     all.extend(sprites::fetched(state, &scan(state, vram, line)));
     all

@@ -63,9 +63,12 @@ pub fn data_write(state: &mut State, vram: &mut [u8], map: &mut [u8], byte: u8) 
         return no;
     }
     let at = usize::from(state.address);
+    let equal = byte_at(vram, at) == byte;
     put_at(vram, at, byte);
     state.buffer = byte;
-    if !planted(faults::WRITE_FORGETS_MAP) {
+    let forgets =
+        planted(faults::WRITE_FORGETS_MAP) || equal && planted(faults::EQUAL_WRITE_FORGETS_MAP);
+    if !forgets {
         map_set(map, at);
     }
     state.step();

@@ -195,13 +195,18 @@ pub fn coincidence(state: &State, vram: &[u8], drawn: &[Sprite]) -> bool {
 /// attributes and pattern bytes of each drawn one, visible or not.
 pub fn fetched(state: &State, scan: &Scan) -> Vec<usize> {
     let mut all = scan.looked_at.clone();
+    if planted(faults::FIFTH_NOT_FETCHED) && scan.fifth.is_some() {
+        all.pop();
+    }
     for sprite in &scan.drawn {
         if planted(faults::OFF_SIDE_NOT_FETCHED) && is_off_side(state, sprite) {
             continue;
         }
         all.extend((1..4).map(|more| sprite.attributes_at + more));
         all.push(sprite.left_at);
-        all.extend(sprite.right_at);
+        if !planted(faults::RIGHT_HALF_NOT_FETCHED) {
+            all.extend(sprite.right_at);
+        }
     }
     all
 }

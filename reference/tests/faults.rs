@@ -162,3 +162,126 @@ fn fault_10_coincidence_of_uncoloured() {
     };
     shows(faults::ONLY_COLOURED_COINCIDE, case, 0x20, 0x00);
 }
+
+#[test]
+fn fault_11_colour_of_a_cell() {
+    let case = || {
+        let mut lent = board(0, &[]);
+        lent.full_draw();
+        lent.write_at(0x2000, 0x05);
+        (lent.refresh(), lent.frame[0])
+    };
+    shows(faults::COLOUR_NOT_FETCHED, case, (192, 5), (0, 1));
+}
+
+#[test]
+fn fault_12_right_half() {
+    let case = || {
+        let mut lent = board(2, &[[49, 10, 0, 7]]);
+        lent.full_draw();
+        lent.write_at(0x0810, 0);
+        (lent.refresh(), lent.frame[50 * 256 + 18])
+    };
+    shows(faults::RIGHT_HALF_NOT_FETCHED, case, (1, 1), (0, 7));
+}
+
+/// A sprite becomes the fifth on eight lines.
+#[test]
+fn fault_13_fifth() {
+    let case = || {
+        let mut sprites = [[49, 10, 0, 7]; 5];
+        sprites[4][0] = 100;
+        let mut lent = board(0, &sprites);
+        lent.full_draw();
+        lent.write_at(0x1010, 49);
+        (lent.refresh(), lent.notes[50])
+    };
+    shows(faults::FIFTH_NOT_FETCHED, case, (192, 68), (184, 96));
+}
+
+#[test]
+fn fault_14_equal_byte() {
+    let case = || {
+        let mut lent = board(0, &[]);
+        lent.write_at(0x0000, 0);
+        lent.refresh()
+    };
+    shows(faults::EQUAL_WRITE_FORGETS_MAP, case, 8, 0);
+}
+
+#[test]
+fn fault_15_mark_left() {
+    let case = || {
+        let mut lent = board(0, &[]);
+        lent.block[14] = 1;
+        [lent.refresh(), lent.refresh()]
+    };
+    shows(faults::REFRESH_KEEPS_MARK, case, [192, 0], [192, 192]);
+}
+
+#[test]
+fn fault_16_map_left() {
+    let case = || {
+        let mut lent = board(0, &[]);
+        lent.write_at(0x0000, 1);
+        [lent.refresh(), lent.refresh()]
+    };
+    shows(faults::REFRESH_KEEPS_MAP, case, [8, 0], [8, 8]);
+}
+
+/// A name that shows the same leaves its eight lines as they look.
+#[test]
+fn fault_17_count_of_changed() {
+    let case = || {
+        let mut lent = board(0, &[]);
+        lent.full_draw();
+        lent.write_at(0x0000, 1);
+        lent.refresh()
+    };
+    shows(faults::COUNT_OF_CHANGED, case, 8, 0);
+}
+
+#[test]
+fn fault_18_all_redrawn() {
+    let case = || {
+        let mut lent = board(0, &[]);
+        lent.full_draw();
+        lent.frame.fill(0xEE);
+        lent.write_at(0x0000, 1);
+        (lent.refresh(), lent.frame[7 * 256], lent.frame[8 * 256])
+    };
+    shows(faults::ALL_REDRAWN, case, (8, 1, 0xEE), (8, 1, 1));
+}
+
+#[test]
+fn fault_19_only_counts() {
+    let case = || {
+        let mut lent = board(0, &[[49, 10, 0, 7]]);
+        lent.full_draw();
+        lent.write_at(0x1001, 20);
+        (lent.refresh(), lent.frame[50 * 256 + 10])
+    };
+    shows(faults::REFRESH_ONLY_COUNTS, case, (8, 1), (8, 7));
+}
+
+#[test]
+fn fault_20_notes_left() {
+    let case = || {
+        let mut lent = board(0, &[[49, 10, 0, 7], [49, 30, 0, 7]]);
+        lent.full_draw();
+        lent.write_at(0x1005, 10);
+        (lent.refresh(), lent.notes[50])
+    };
+    shows(faults::NOTE_NOT_WRITTEN, case, (8, 32 + 64), (8, 32));
+}
+
+#[test]
+fn fault_21_map_left_by_a_full_draw() {
+    let case = || {
+        let mut lent = board(0, &[]);
+        lent.write_at(0x0000, 1);
+        lent.full_draw();
+        lent.refresh()
+    };
+    shows(faults::FULL_DRAW_KEEPS_MAP, case, 0, 8);
+}
