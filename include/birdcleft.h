@@ -28,7 +28,7 @@ enum {
 /* How many lines a frame has. */
 enum { VDP_LINES = 192 };
 
-/* Refusal numbers. Tests run in the order 1, 2, 5, 6, 7, 3, 4. */
+/* Refusal numbers. Where several fit, the answer is the earliest of 1, 2, 5, 6, 7, 3, 4. */
 enum {
     VDP_ACCEPTED = 0,
     VDP_VRAM_LENGTH = 1,     /* VRAM slice not 16,384 bytes */
@@ -71,8 +71,8 @@ uint32_t vdp_end_of_display(uint8_t *block, size_t block_len);
 /* Whether the interrupt line is on. */
 uint32_t vdp_interrupt_line(const uint8_t *block, size_t block_len);
 
-/* Draws line number 0 to 191 into 256 bytes, one colour (0 to 15) each. Status follows the line; map, redraw
- * mark and any frame stay as they are. */
+/* Draws line number 0 to 191 into 256 bytes, one colour (0 to 15) each. The line's note updates status; map,
+ * redraw mark and any frame stay as they are. */
 uint32_t vdp_draw_line(uint8_t *block, size_t block_len, const uint8_t *vram, size_t vram_len, uint8_t *line, size_t line_len, uint32_t number);
 
 /* A frame has lines 0 to 191 end to end. Each line has a note: the number of its fifth sprite, or 32 if
@@ -80,12 +80,14 @@ uint32_t vdp_draw_line(uint8_t *block, size_t block_len, const uint8_t *vram, si
  *
  * Where the host changes VRAM itself, the map does not tell; a full draw does not need it. */
 
-/* Full draw: every line into the frame, and its note. Status follows the notes; map and redraw mark are cleared. */
+/* Full draw: every line into the frame, and its note. The notes update status, in order; map and redraw mark are
+ * cleared. */
 uint32_t vdp_full_draw(uint8_t *block, size_t block_len, const uint8_t *vram, size_t vram_len, uint8_t *map, size_t map_len, uint8_t *frame, size_t frame_len, uint8_t *notes, size_t notes_len);
 
 /* Refresh: redraws the lines that are due and answers how many. With the redraw mark set all are, else those
  * that fetch a byte which the map has. Lent the frame and notes of the last full draw or refresh, it leaves what
- * a full draw would. Status follows all notes; map and redraw mark are cleared. */
+ * a full draw would; a line that is not due keeps whatever was lent. All notes update status, in order; map and
+ * redraw mark are cleared. */
 uint32_t vdp_refresh(uint8_t *block, size_t block_len, const uint8_t *vram, size_t vram_len, uint8_t *map, size_t map_len, uint8_t *frame, size_t frame_len, uint8_t *notes, size_t notes_len);
 
 /* Reset: clears registers 0 and 1, status and the waiting byte, and sets the redraw mark. */
