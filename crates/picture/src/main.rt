@@ -1,7 +1,13 @@
-// Writes the snapshot on standard input as a binary PPM picture, 256 by 192, drawn line by line.
+// Writes the snapshot on standard input as a binary PPM picture, 256 by 192.
+ghost use Prim.Native.Nat.{_+_, _*_};
 ghost use mathlib.Core.Path.{_≡_};
+ghost use mathlib.Core.Bool.{true};
+ghost use mathlib.Core.List.{_++_};
 ghost use lib.ListN.{length};
+ghost use Rattle.chip.specs.State.{wellFormed};
+ghost use Rattle.frame.specs.Draw.{frameOf};
 ghost use Rattle.picture.specs.Palette.{pixelOf};
+ghost use Rattle.picture.specs.Picture.{painted, header, pictureOf};
 use chip::Chip;
 
 // Red, green and blue of the 16 colours (docs/DECISIONS.md).
@@ -71,13 +77,14 @@ fn pixel_of(colour: u8) -> Pixel
     [RED[c], GREEN[c], BLUE[c]]
 }
 
-// The pixels of a line.
-fn paint(line: &[u8], out: &mut [u8])
-    requires { ⌜ (length (now line) ≡ 256) × (length (now out) ≡ 768) ⌝ }
+// The pixels of colours.
+fn paint(colours: &[u8], out: &mut [u8])
+    requires { ⌜ length (now out) ≡ 3 * length (now colours) ⌝ }
+    ensures { λ _. ⌜ now (out .exit) ≡ painted (now (colours .entry)) ⌝ }
 {
     let mut x = 0;
-    while x < 256 {
-        let pixel = pixel_of(line[x]);
+    while x < colours.len() {
+        let pixel = pixel_of(colours[x]);
         out[3 * x] = pixel[0];
         out[3 * x + 1] = pixel[1];
         out[3 * x + 2] = pixel[2];
@@ -85,17 +92,33 @@ fn paint(line: &[u8], out: &mut [u8])
     }
 }
 
-fn draw(chip: Chip, vram: &[u8]) {
-    io::write_all(1, b"P6\n256 192\n255\n");
-    let mut line = [0u8; 256];
-    let mut out = [0u8; 768];
-    let mut l = 0;
-    while l < 192 {
-        scanline::draw_line(chip, vram, &mut line, l);
-        paint(&line, &mut out);
-        io::write_all(1, &out);
-        l += 1;
-    }
+// Lines 0 to 191.
+fn draw_frame(chip: Chip, vram: &[u8], frame: &mut [u8])
+    requires { ⌜ (wellFormed chip ≡ true) × (length (now vram) ≡ 16384) × (length (now frame) ≡ 49152) ⌝ }
+    ensures { λ _. ⌜ now (frame .exit) ≡ frameOf (chip .registers) (now (vram .entry)) ⌝ }
+{
+    let mut map = [0u8; 2048];
+    let mut notes = [0u8; 192];
+    frame::full_draw(chip, vram, &mut map, frame, &mut notes);
+}
+
+// The header, and the pixels behind it.
+fn put_file(colours: &[u8], out: &mut [u8])
+    requires { ⌜ length (now out) ≡ 15 + 3 * length (now colours) ⌝ }
+    ensures { λ _. ⌜ now (out .exit) ≡ header ++ painted (now (colours .entry)) ⌝ }
+{
+    let header = *b"P6\n256 192\n255\n";
+    chip::copy(&mut out[0..15], &header);
+    paint(colours, &mut out[15..]);
+}
+
+fn draw(chip: Chip, vram: &[u8], out: &mut [u8])
+    requires { ⌜ (wellFormed chip ≡ true) × (length (now vram) ≡ 16384) × (length (now out) ≡ 147471) ⌝ }
+    ensures { λ _. ⌜ now (out .exit) ≡ pictureOf (chip .registers) (now (vram .entry)) ⌝ }
+{
+    let mut frame = [0u8; 49152];
+    draw_frame(chip, vram, &mut frame);
+    put_file(&frame, out);
 }
 
 fn main() {
@@ -103,6 +126,8 @@ fn main() {
     let answer = input::read(&mut vram);
     let refusal = answer.refusal;
     if refusal.number() == 0 {
-        draw(answer.chip, &vram);
+        let mut out = [0u8; 147471];
+        draw(answer.chip, &vram, &mut out);
+        io::write_all(1, &out);
     }
 }

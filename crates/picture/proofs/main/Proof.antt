@@ -1,0 +1,53 @@
+-- `main` is safe: the state of an accepted snapshot is well-formed.
+use mathlib.Core.Path.{sym, _∙_}
+use Rattle.picture.proofs.Laws.Accepted.{well-formed}
+use borrow.Author.Needs.{needs}
+use Rattle.picture.proofs.main.Statement.{statement}
+use Rattle.picture.proofs.main.Tie as tie
+
+slice-aggregate-read : tie.Need-slice-aggregate-read
+slice-aggregate-read c = search needs
+
+read-requires : tie.Need-read-requires
+read-requires c κs = search needs
+
+number-requires : tie.Need-number-requires
+number-requires c κs = search needs
+
+slice-aggregate-draw : tie.Need-slice-aggregate-draw
+slice-aggregate-draw c = search needs
+
+slice-aggregate-draw-2 : tie.Need-slice-aggregate-draw-2
+slice-aggregate-draw-2 c = search needs
+
+draw-requires : tie.Need-draw-requires
+draw-requires c κs =
+    let number = c .before .before .before in
+    (well-formed (number .before .before .read .ensures) (sym (number .number .ensures) ∙ c .before .before .if1 .taken), search needs, search needs)
+
+slice-aggregate-write-all : tie.Need-slice-aggregate-write-all
+slice-aggregate-write-all c = search needs
+
+write-all-requires : tie.Need-write-all-requires
+write-all-requires c κs = search needs
+
+returns : tie.Need-returns
+returns c = search needs
+
+returns-2 : tie.Need-returns-2
+returns-2 c = search needs
+
+pub main-spec : {M : Type 1} → statement M
+main-spec =
+    tie.close
+    (tie.spec
+    slice-aggregate-read
+    read-requires
+    number-requires
+    slice-aggregate-draw
+    slice-aggregate-draw-2
+    draw-requires
+    slice-aggregate-write-all
+    write-all-requires
+    returns
+    returns-2)
