@@ -1,6 +1,6 @@
 -- `main` is safe: the state of an accepted snapshot is well-formed.
 use mathlib.Core.Path.{sym, _∙_}
-use Rattle.picture.proofs.Laws.Accepted.{well-formed}
+use Rattle.input.proofs.Laws.Accepted.{well-formed}
 use borrow.Author.Needs.{needs}
 use Rattle.picture.proofs.main.Statement.{statement}
 use Rattle.picture.proofs.main.Tie as tie
