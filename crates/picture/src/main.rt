@@ -1,13 +1,12 @@
-// Writes the snapshot on standard input as a binary PPM picture, 256 by 192.
-ghost use Prim.Native.Nat.{_+_, _*_};
+// Writes the snapshot on standard input as a binary PPM picture, 256 by 192, drawn line by line.
+ghost use Prim.Native.Nat.{_*_, _<_};
 ghost use mathlib.Core.Path.{_≡_};
 ghost use mathlib.Core.Bool.{true};
-ghost use mathlib.Core.List.{_++_};
 ghost use lib.ListN.{length};
 ghost use Rattle.chip.specs.State.{wellFormed};
-ghost use Rattle.frame.specs.Draw.{frameOf};
+ghost use Rattle.scanline.specs.Calls as calls;
 ghost use Rattle.picture.specs.Palette.{pixelOf};
-ghost use Rattle.picture.specs.Picture.{painted, header, pictureOf};
+ghost use Rattle.picture.specs.Picture.{painted};
 use chip::Chip;
 
 // Red, green and blue of the 16 colours (docs/DECISIONS.md).
@@ -92,33 +91,27 @@ fn paint(colours: &[u8], out: &mut [u8])
     }
 }
 
-// Lines 0 to 191.
-fn draw_frame(chip: Chip, vram: &[u8], frame: &mut [u8])
-    requires { ⌜ (wellFormed chip ≡ true) × (length (now vram) ≡ 16384) × (length (now frame) ≡ 49152) ⌝ }
-    ensures { λ _. ⌜ now (frame .exit) ≡ frameOf (chip .registers) (now (vram .entry)) ⌝ }
+// The pixels of line l.
+fn paint_line(chip: Chip, vram: &[u8], l: u32, out: &mut [u8])
+    requires { ⌜ (wellFormed chip ≡ true) × (length (now vram) ≡ 16384) × (l < 192) × (length (now out) ≡ 768) ⌝ }
+    ensures { λ _. ⌜ now (out .exit) ≡ painted (calls.colours (chip .registers) (now (vram .entry)) l) ⌝ }
 {
-    let mut map = [0u8; 2048];
-    let mut notes = [0u8; 192];
-    frame::full_draw(chip, vram, &mut map, frame, &mut notes);
+    let mut line = [0u8; 256];
+    scanline::draw_line(chip, vram, &mut line, l);
+    paint(&line, out);
 }
 
-// The header, and the pixels behind it.
-fn put_file(colours: &[u8], out: &mut [u8])
-    requires { ⌜ length (now out) ≡ 15 + 3 * length (now colours) ⌝ }
-    ensures { λ _. ⌜ now (out .exit) ≡ header ++ painted (now (colours .entry)) ⌝ }
+fn draw(chip: Chip, vram: &[u8])
+    requires { ⌜ (wellFormed chip ≡ true) × (length (now vram) ≡ 16384) ⌝ }
 {
-    let header = *b"P6\n256 192\n255\n";
-    chip::copy(&mut out[0..15], &header);
-    paint(colours, &mut out[15..]);
-}
-
-fn draw(chip: Chip, vram: &[u8], out: &mut [u8])
-    requires { ⌜ (wellFormed chip ≡ true) × (length (now vram) ≡ 16384) × (length (now out) ≡ 147471) ⌝ }
-    ensures { λ _. ⌜ now (out .exit) ≡ pictureOf (chip .registers) (now (vram .entry)) ⌝ }
-{
-    let mut frame = [0u8; 49152];
-    draw_frame(chip, vram, &mut frame);
-    put_file(&frame, out);
+    io::write_all(1, b"P6\n256 192\n255\n");
+    let mut out = [0u8; 768];
+    let mut l = 0;
+    while l < 192 {
+        paint_line(chip, vram, l, &mut out);
+        io::write_all(1, &out);
+        l += 1;
+    }
 }
 
 fn main() {
@@ -126,8 +119,6 @@ fn main() {
     let answer = input::read(&mut vram);
     let refusal = answer.refusal;
     if refusal.number() == 0 {
-        let mut out = [0u8; 147471];
-        draw(answer.chip, &vram, &mut out);
-        io::write_all(1, &out);
+        draw(answer.chip, &vram);
     }
 }

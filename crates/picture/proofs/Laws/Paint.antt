@@ -1,13 +1,18 @@
 -- Colours painted one by one.
-use Prim.Native.Nat.{ℕ, suc, _+_, _-_, _*_, _≤_, _<_}
+use Prim.Native.Nat.{ℕ, suc, _+_, _*_, _≤_, _<_}
 use native.Mathlib.Numerals.{add-one}
 use native.Mathlib.Omega.{arith}
 use mathlib.Core.Path.{_≡_, refl, sym, ap, ap₂, _∙_}
+use mathlib.Core.Bool.{true}
 use mathlib.Core.List.{List, [], _∷_, _++_, append-assoc, append-nil}
 use lib.ListN.{length, getD, take, drop, set, length-append, length-drop, drop-of-length-le}
-use lib.Seq.{sets, sets-eq, take-suc, take-all, take-at, drop-at, drop-drop, length-take-le}
+use lib.Seq.{sets-eq, take-suc, take-all, take-at, drop-at, drop-drop, length-take-le}
+use Rattle.chip.specs.State.{wellFormed}
+use Rattle.chip.specs.declared.state.Chip.{Chip}
+use Rattle.scanline.specs.Calls.{colours, drawLineLine}
+use Rattle.text.proofs.Laws.Pieces.{line-drawn}
 use Rattle.picture.specs.Palette.{pixelOf}
-use Rattle.picture.specs.Picture.{painted, header}
+use Rattle.picture.specs.Picture.{painted}
 
 painted-one-more : (l : List ℕ) (c : ℕ) → painted (l ++ (c ∷ [])) ≡ painted l ++ pixelOf c
 unfolding painted
@@ -18,10 +23,6 @@ pub length-painted : (l : List ℕ) → length (painted l) ≡ 3 * length l
 unfolding painted
 length-painted [] = refl
 length-painted (c ∷ l) = let h = length-painted l in omega arith
-
-pub length-header : length header ≡ 15
-unfolding header
-length-header = refl
 
 -- three stores in a row
 three : (l : List ℕ) (n a b d : ℕ) → n + 3 ≤ length l → set (set (set l n a) (n + 1) b) (n + 2) d ≡ take n l ++ (a ∷ b ∷ d ∷ []) ++ drop (n + 3) l
@@ -74,12 +75,6 @@ module _ {colours out₀ : List ℕ} (room : length out₀ ≡ 3 * length colour
       ∙ ap₂ (λ (s t : List ℕ). painted s ++ t) (take-all x colours (omega arith)) (drop-of-length-le out₀ past)
       ∙ append-nil (painted colours)
 
--- the header in front, and pixels over all that follows
-pub behind-header : {h p : List ℕ} (rest pixels : List ℕ) → h ≡ header → p ≡ pixels → take 15 (h ++ rest) ++ (p ++ drop (length (h ++ rest) - 15) (drop 15 (h ++ rest))) ≡ header ++ pixels
-behind-header {h} {p} rest pixels eh ep =
-    let l = h ++ rest in
-    let long : length h ≡ 15 = ap length eh ∙ length-header in
-    let past : length (drop 15 l) ≤ length l - 15 = omega (arith, length-drop 15 l) in
-    let none : drop (length l - 15) (drop 15 l) ≡ [] = drop-of-length-le (drop 15 l) past in
-    ap₂ (λ (s t : List ℕ). s ++ (p ++ t)) (take-at h rest 15 long ∙ eh) none
-    ∙ ap (λ (t : List ℕ). header ++ t) (append-nil p ∙ ep)
+-- A line that is drawn and then painted.
+pub line-painted : {line out : List ℕ} (c : Chip) (vram given : List ℕ) (l : ℕ) → wellFormed c ≡ true → length vram ≡ 16384 → length given ≡ 256 → l < 192 → line ≡ drawLineLine c vram given l → out ≡ painted line → out ≡ painted (colours (c .registers) vram l)
+line-painted c vram given l ok full wide h drawn e = e ∙ ap painted (drawn ∙ line-drawn vram given full wide c ok l h)

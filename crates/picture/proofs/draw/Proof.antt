@@ -1,38 +1,64 @@
--- `draw`: the file of the frame.
-use mathlib.Core.Path.{ap, _∙_}
-use mathlib.Core.List.{List, _++_}
-use Prim.Native.Nat.{ℕ}
-use Rattle.picture.specs.Picture.{painted, header}
+-- `draw` is safe and ends.
+use Prim.Native.Nat.{_≤_, _-_}
+use mathlib.Core.Path.{_≡_}
+use lib.ListN.{length}
 use borrow.Author.Needs.{needs}
 use Rattle.picture.proofs.draw.Statement.{statement}
 use Rattle.picture.proofs.draw.Tie as tie
 
-slice-aggregate-draw-frame : tie.Need-slice-aggregate-draw-frame
-slice-aggregate-draw-frame c = search needs
+abbrev Inv-loop : tie.InvT-loop
+Inv-loop chip vram out₀ l₀ out l = (l ≤ 192) × (length out ≡ 768)
 
-draw-frame-requires : tie.Need-draw-frame-requires
-draw-frame-requires c κs = search needs
+abbrev μ-loop : tie.MeasureT-loop
+μ-loop chip vram out₀ l₀ out l = 192 - l
 
-slice-aggregate-put-file : tie.Need-slice-aggregate-put-file
-slice-aggregate-put-file c = search needs
+slice-aggregate-write-all : tie.Need-slice-aggregate-write-all Inv-loop μ-loop
+slice-aggregate-write-all c = search needs
 
-put-file-requires : tie.Need-put-file-requires
-put-file-requires c κs = search needs
+write-all-requires : tie.Need-write-all-requires Inv-loop μ-loop
+write-all-requires c κs = search needs
 
-same-length : tie.Need-same-length
-same-length c = search needs
+loop-holds : tie.Need-loop-holds Inv-loop μ-loop
+loop-holds c = search needs
 
-returns : tie.Need-returns
-returns c =
-    c .before .before .put-file .ensures ∙ ap (λ (l : List ℕ). header ++ painted l) (c .before .before .before .before .before .before .draw-frame .ensures)
+slice-aggregate-paint-line : tie.Need-slice-aggregate-paint-line Inv-loop μ-loop
+slice-aggregate-paint-line c = search needs
+
+paint-line-requires : tie.Need-paint-line-requires Inv-loop μ-loop
+paint-line-requires c κs = search needs
+
+slice-aggregate-write-all-2 : tie.Need-slice-aggregate-write-all-2 Inv-loop μ-loop
+slice-aggregate-write-all-2 c = search needs
+
+write-all-requires-2 : tie.Need-write-all-requires-2 Inv-loop μ-loop
+write-all-requires-2 c κs = search needs
+
+add-l : tie.Need-add-l Inv-loop μ-loop
+add-l c = search needs
+
+loop-less : tie.Need-loop-less Inv-loop μ-loop
+loop-less c = search needs
+
+loop-again : tie.Need-loop-again Inv-loop μ-loop
+loop-again c = search needs
+
+returns : tie.Need-returns Inv-loop μ-loop
+returns c = search needs
 
 pub draw-spec : {M : Type 1} → statement M
 draw-spec =
     tie.close
     (tie.spec
-    slice-aggregate-draw-frame
-    draw-frame-requires
-    slice-aggregate-put-file
-    put-file-requires
-    same-length
+    Inv-loop
+    μ-loop
+    slice-aggregate-write-all
+    write-all-requires
+    loop-holds
+    slice-aggregate-paint-line
+    paint-line-requires
+    slice-aggregate-write-all-2
+    write-all-requires-2
+    add-l
+    loop-less
+    loop-again
     returns)

@@ -17,19 +17,10 @@ number-requires c κs = search needs
 slice-aggregate-draw : tie.Need-slice-aggregate-draw
 slice-aggregate-draw c = search needs
 
-slice-aggregate-draw-2 : tie.Need-slice-aggregate-draw-2
-slice-aggregate-draw-2 c = search needs
-
 draw-requires : tie.Need-draw-requires
 draw-requires c κs =
-    let number = c .before .before .before in
-    (well-formed (number .before .before .read .ensures) (sym (number .number .ensures) ∙ c .before .before .if1 .taken), search needs, search needs)
-
-slice-aggregate-write-all : tie.Need-slice-aggregate-write-all
-slice-aggregate-write-all c = search needs
-
-write-all-requires : tie.Need-write-all-requires
-write-all-requires c κs = search needs
+    let number = c .before .before in
+    (well-formed (number .before .before .read .ensures) (sym (number .number .ensures) ∙ c .before .if1 .taken), search needs)
 
 returns : tie.Need-returns
 returns c = search needs
@@ -45,9 +36,6 @@ main-spec =
     read-requires
     number-requires
     slice-aggregate-draw
-    slice-aggregate-draw-2
     draw-requires
-    slice-aggregate-write-all
-    write-all-requires
     returns
     returns-2)
