@@ -1,1 +1,2 @@
 pub mod Palette
+pub mod Picture

@@ -1,7 +1,12 @@
 // Writes the snapshot on standard input as a binary PPM picture, 256 by 192, drawn line by line.
+ghost use Prim.Native.Nat.{_*_, _<_};
 ghost use mathlib.Core.Path.{_≡_};
+ghost use mathlib.Core.Bool.{true};
 ghost use lib.ListN.{length};
+ghost use Rattle.chip.specs.State.{wellFormed};
+ghost use Rattle.scanline.specs.Calls as calls;
 ghost use Rattle.picture.specs.Palette.{pixelOf};
+ghost use Rattle.picture.specs.Picture.{painted};
 use chip::Chip;
 
 // Red, green and blue of the 16 colours (docs/DECISIONS.md).
@@ -71,13 +76,14 @@ fn pixel_of(colour: u8) -> Pixel
     [RED[c], GREEN[c], BLUE[c]]
 }
 
-// The pixels of a line.
-fn paint(line: &[u8], out: &mut [u8])
-    requires { ⌜ (length (now line) ≡ 256) × (length (now out) ≡ 768) ⌝ }
+// The pixels of colours.
+fn paint(colours: &[u8], out: &mut [u8])
+    requires { ⌜ length (now out) ≡ 3 * length (now colours) ⌝ }
+    ensures { λ _. ⌜ now (out .exit) ≡ painted (now (colours .entry)) ⌝ }
 {
     let mut x = 0;
-    while x < 256 {
-        let pixel = pixel_of(line[x]);
+    while x < colours.len() {
+        let pixel = pixel_of(colours[x]);
         out[3 * x] = pixel[0];
         out[3 * x + 1] = pixel[1];
         out[3 * x + 2] = pixel[2];
@@ -85,38 +91,34 @@ fn paint(line: &[u8], out: &mut [u8])
     }
 }
 
-fn draw(chip: Chip, vram: &[u8]) {
-    io::write_all(1, b"P6\n256 192\n255\n");
+// The pixels of line l.
+fn paint_line(chip: Chip, vram: &[u8], l: u32, out: &mut [u8])
+    requires { ⌜ (wellFormed chip ≡ true) × (length (now vram) ≡ 16384) × (l < 192) × (length (now out) ≡ 768) ⌝ }
+    ensures { λ _. ⌜ now (out .exit) ≡ painted (calls.colours (chip .registers) (now (vram .entry)) l) ⌝ }
+{
     let mut line = [0u8; 256];
+    scanline::draw_line(chip, vram, &mut line, l);
+    paint(&line, out);
+}
+
+fn draw(chip: Chip, vram: &[u8])
+    requires { ⌜ (wellFormed chip ≡ true) × (length (now vram) ≡ 16384) ⌝ }
+{
+    io::write_all(1, b"P6\n256 192\n255\n");
     let mut out = [0u8; 768];
     let mut l = 0;
     while l < 192 {
-        scanline::draw_line(chip, vram, &mut line, l);
-        paint(&line, &mut out);
+        paint_line(chip, vram, l, &mut out);
         io::write_all(1, &out);
         l += 1;
     }
 }
 
-fn refuse(number: u8) {
-    let mut out = [0u8; 12];
-    let written = text::refusal_line(number, &mut out);
-    if written <= out.len() {
-        io::write_all(1, &out[..written]);
-    }
-}
-
 fn main() {
-    // One byte more than a snapshot has room, so that a longer file is seen.
-    let mut file = [0u8; 16407];
-    let n = io::read_full(0, &mut file);
     let mut vram = [0u8; 16384];
-    let answer = snapshot::read(Chip::power_up_state(), &mut vram, &file[..n]);
+    let answer = input::read(&mut vram);
     let refusal = answer.refusal;
-    let number = refusal.number();
-    if number != 0 {
-        refuse(number as u8);
-        return;
+    if refusal.number() == 0 {
+        draw(answer.chip, &vram);
     }
-    draw(answer.chip, &vram);
 }

@@ -1,10 +1,15 @@
 // Drawing a line and printing it.
+ghost use mathlib.Core.Path.{_≡_};
+ghost use Rattle.scanline.specs.Calls.{drawLine, drawLineLine};
+ghost use Rattle.scenes.specs.Shown.{stateOf};
 use chip::Chip;
 use chip::Waiting;
 use libc::STDOUT_FILENO;
 
 // A state with these registers and this status.
-fn chip_of(r: [u8; 8], status: u8) -> Chip {
+fn chip_of(r: [u8; 8], status: u8) -> Chip
+    ensures { λ c. ⌜ c ≡ stateOf r status ⌝ }
+{
     Chip {
         registers: r,
         address: 0,
@@ -42,30 +47,29 @@ fn print_runs(line: &[u8]) {
     }
 }
 
-// Draws a line into a lent slice, and prints it.
-fn show_in(label: &[u8], r: [u8; 8], status: u8, vram: &[u8], line: &mut [u8], number: u32) {
+// Draws a line into a lent slice, and answers the status after it.
+fn draw(r: [u8; 8], status: u8, vram: &[u8], line: &mut [u8], number: u32) -> u8
+    ensures { λ s. ⌜ s ≡ drawLine (stateOf r status) (now (vram .entry)) (now (line .entry)) number .chip .status ⌝ }
+    ensures { λ _. ⌜ now (line .exit) ≡ drawLineLine (stateOf r status) (now (vram .entry)) (now (line .entry)) number ⌝ }
+{
     let answer = scanline::draw_line(chip_of(r, status), vram, line, number);
+    answer.chip.status
+}
+
+fn print_line(label: &[u8], number: u32, line: &[u8], status: u8) {
     io::write_all(STDOUT_FILENO, label);
     io::write_all(STDOUT_FILENO, b", line ");
     io::print_decimal(STDOUT_FILENO, number as u64);
     io::write_all(STDOUT_FILENO, b":");
     print_runs(line);
     io::write_all(STDOUT_FILENO, b", status ");
-    io::print_hex(STDOUT_FILENO, answer.chip.status as u64, 2);
+    io::print_hex(STDOUT_FILENO, status as u64, 2);
     io::write_all(STDOUT_FILENO, b"\n");
 }
 
 // Draws a line from a status, and prints label, number, runs and the status after.
 pub fn show(label: &[u8], r: [u8; 8], status: u8, vram: &[u8], number: u32) {
     let mut line = [0u8; 256];
-    show_in(label, r, status, vram, &mut line, number);
-}
-
-// Lines 0 to 7.
-pub fn show_eight(label: &[u8], r: [u8; 8], vram: &[u8]) {
-    let mut number = 0;
-    while number < 8 {
-        show(label, r, 0, vram, number);
-        number += 1;
-    }
+    let after = draw(r, status, vram, &mut line, number);
+    print_line(label, number, &line, after);
 }

@@ -1,6 +1,5 @@
 // The manual's (M) and the guide's (G) worked set-ups.
 use crate::print::show;
-use crate::print::show_eight;
 use crate::put::count_up;
 use crate::put::put;
 use crate::put::repeat;
@@ -137,6 +136,15 @@ fn show_bases() {
         g_e(),
         [0x0400, 0x2000, 0x0800, 0x0300, 0x0000],
     );
+}
+
+// Lines 0 to 7.
+fn show_eight(label: &[u8], r: [u8; 8], vram: &[u8]) {
+    let mut number = 0;
+    while number < 8 {
+        show(label, r, 0, vram, number);
+        number += 1;
+    }
 }
 
 // M Fig. 2-13 in cell 0 of G 6-2; the other cells are blank.

@@ -1,6 +1,9 @@
 // Shows the snapshot on standard input as text: status before and after a full draw, then the lines, drawn one by one.
-ghost use Prim.Native.Nat.{_≤_};
+ghost use mathlib.Core.Path.{_≡_};
+ghost use mathlib.Core.Bool.{true};
 ghost use lib.ListN.{length};
+ghost use Rattle.chip.specs.State.{wellFormed};
+ghost use Rattle.text.specs.Show.{statusThrough};
 use chip::Chip;
 
 // Writes the first n bytes.
@@ -11,7 +14,10 @@ fn print(out: &[u8], n: usize) {
 }
 
 // Status after lines 0 to 191 are drawn.
-fn status_after(chip: Chip, vram: &[u8]) -> u8 {
+fn status_after(chip: Chip, vram: &[u8]) -> u8
+    requires { ⌜ (wellFormed chip ≡ true) × (length (now vram) ≡ 16384) ⌝ }
+    ensures { λ s. ⌜ s ≡ statusThrough (chip .registers) (now (vram .entry)) (chip .status) 192 ⌝ }
+{
     let mut line = [0u8; 256];
     let mut next = chip;
     let mut l = 0;
@@ -45,30 +51,20 @@ fn show_lines(chip: Chip, vram: &[u8]) {
     print(&out, written);
 }
 
-fn show(chip: Chip, vram: &[u8]) {
+fn show(chip: Chip, vram: &[u8])
+    requires { ⌜ (wellFormed chip ≡ true) × (length (now vram) ≡ 16384) ⌝ }
+{
     let mut out = [0u8; 13];
     let written = text::status_line(chip.status, status_after(chip, vram), &mut out);
     print(&out, written);
     show_lines(chip, vram);
 }
 
-fn refuse(number: u8) {
-    let mut out = [0u8; 12];
-    let written = text::refusal_line(number, &mut out);
-    print(&out, written);
-}
-
 fn main() {
-    // One byte more than a snapshot has room, so that a longer file is seen.
-    let mut file = [0u8; 16407];
-    let n = io::read_full(0, &mut file);
     let mut vram = [0u8; 16384];
-    let answer = snapshot::read(Chip::power_up_state(), &mut vram, &file[..n]);
+    let answer = input::read(&mut vram);
     let refusal = answer.refusal;
-    let number = refusal.number();
-    if number != 0 {
-        refuse(number as u8);
-        return;
+    if refusal.number() == 0 {
+        show(answer.chip, &vram);
     }
-    show(answer.chip, &vram);
 }

@@ -7,10 +7,10 @@ use Rattle.picture.proofs.draw.Statement.{statement}
 use Rattle.picture.proofs.draw.Tie as tie
 
 abbrev Inv-loop : tie.InvT-loop
-Inv-loop chip vram line₀ out₀ l₀ line out l = (l ≤ 192) × (length line ≡ 256) × (length out ≡ 768)
+Inv-loop chip vram out₀ l₀ out l = (l ≤ 192) × (length out ≡ 768)
 
 abbrev μ-loop : tie.MeasureT-loop
-μ-loop chip vram line₀ out₀ l₀ line out l = 192 - l
+μ-loop chip vram out₀ l₀ out l = 192 - l
 
 slice-aggregate-write-all : tie.Need-slice-aggregate-write-all Inv-loop μ-loop
 slice-aggregate-write-all c = search needs
@@ -21,20 +21,11 @@ write-all-requires c κs = search needs
 loop-holds : tie.Need-loop-holds Inv-loop μ-loop
 loop-holds c = search needs
 
-slice-aggregate-draw-line : tie.Need-slice-aggregate-draw-line Inv-loop μ-loop
-slice-aggregate-draw-line c = search needs
+slice-aggregate-paint-line : tie.Need-slice-aggregate-paint-line Inv-loop μ-loop
+slice-aggregate-paint-line c = search needs
 
-draw-line-requires : tie.Need-draw-line-requires Inv-loop μ-loop
-draw-line-requires c κs = search needs
-
-slice-aggregate-paint : tie.Need-slice-aggregate-paint Inv-loop μ-loop
-slice-aggregate-paint c = search needs
-
-slice-aggregate-paint-2 : tie.Need-slice-aggregate-paint-2 Inv-loop μ-loop
-slice-aggregate-paint-2 c = search needs
-
-paint-requires : tie.Need-paint-requires Inv-loop μ-loop
-paint-requires c κs = search needs
+paint-line-requires : tie.Need-paint-line-requires Inv-loop μ-loop
+paint-line-requires c κs = search needs
 
 slice-aggregate-write-all-2 : tie.Need-slice-aggregate-write-all-2 Inv-loop μ-loop
 slice-aggregate-write-all-2 c = search needs
@@ -63,11 +54,8 @@ draw-spec =
     slice-aggregate-write-all
     write-all-requires
     loop-holds
-    slice-aggregate-draw-line
-    draw-line-requires
-    slice-aggregate-paint
-    slice-aggregate-paint-2
-    paint-requires
+    slice-aggregate-paint-line
+    paint-line-requires
     slice-aggregate-write-all-2
     write-all-requires-2
     add-l

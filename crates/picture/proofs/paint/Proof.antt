@@ -1,20 +1,21 @@
--- `paint` is safe and ends.
+-- `paint`: the first `x` colours are painted.
 use Prim.Native.Nat.{_≤_, _-_}
-use mathlib.Core.Path.{_≡_}
+use mathlib.Core.Path.{_≡_, refl}
 use native.Mathlib.Omega.{arith}
 use lib.ListN.{length, length-set}
+use Rattle.picture.proofs.Laws.Paint.{Painting, painting-none, painting-long, painting-more, painting-all}
 use borrow.Author.Needs.{needs}
 use Rattle.picture.proofs.paint.Statement.{statement}
 use Rattle.picture.proofs.paint.Tie as tie
 
 abbrev Inv-loop : tie.InvT-loop
-Inv-loop line out₀ x₀ out x = (x ≤ 256) × (length out ≡ 768)
+Inv-loop colours out₀ x₀ out x = (x ≤ length colours) × (length out ≡ length out₀) × Painting colours out₀ out x
 
 abbrev μ-loop : tie.MeasureT-loop
-μ-loop line out₀ x₀ out x = 256 - x
+μ-loop colours out₀ x₀ out x = length colours - x
 
 loop-holds : tie.Need-loop-holds Inv-loop μ-loop
-loop-holds c = search needs
+loop-holds c = (omega arith, refl, painting-none)
 
 shared-slice-read-pixel-of : tie.Need-shared-slice-read-pixel-of Inv-loop μ-loop
 shared-slice-read-pixel-of c = search needs
@@ -62,13 +63,17 @@ loop-less : tie.Need-loop-less Inv-loop μ-loop
 loop-less c = search needs
 
 loop-again : tie.Need-loop-again Inv-loop μ-loop
-loop-again c = search needs
+loop-again c =
+    let at = c .before .before .before .loop in
+    let room = c .before .before .before .before .before .before .pre in
+    let more = painting-more room (omega arith) (c .pixel-of .ensures) (at .inv .2) in
+    (omega arith, painting-long room (omega arith) more, more)
 
 same-length : tie.Need-same-length Inv-loop μ-loop
 same-length c = search needs
 
 returns : tie.Need-returns Inv-loop μ-loop
-returns c = search needs
+returns c = painting-all (c .before .before .before .before .pre) (omega arith) (c .before .loop .inv .2)
 
 pub paint-spec : {M : Type 1} → statement M
 paint-spec =

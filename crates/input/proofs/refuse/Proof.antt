@@ -3,8 +3,8 @@ use native.Mathlib.Omega.{arith}
 use mathlib.Core.Path.{sym}
 use lib.Seq.{length-take-le}
 use borrow.Author.Needs.{needs}
-use Rattle.picture.proofs.refuse.Statement.{statement}
-use Rattle.picture.proofs.refuse.Tie as tie
+use Rattle.input.proofs.refuse.Statement.{statement}
+use Rattle.input.proofs.refuse.Tie as tie
 
 slice-aggregate-refusal-line : tie.Need-slice-aggregate-refusal-line
 slice-aggregate-refusal-line c = search needs

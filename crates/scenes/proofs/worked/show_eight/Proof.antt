@@ -2,8 +2,8 @@
 use Prim.Native.Nat.{_-_}
 use native.Mathlib.Omega.{arith}
 use borrow.Author.Needs.{needs}
-use Rattle.scenes.proofs.print.show_eight.Statement.{statement}
-use Rattle.scenes.proofs.print.show_eight.Tie as tie
+use Rattle.scenes.proofs.worked.show_eight.Statement.{statement}
+use Rattle.scenes.proofs.worked.show_eight.Tie as tie
 
 abbrev Inv-loop : tie.InvT-loop
 Inv-loop label r vram number₀ number = Unit {0}

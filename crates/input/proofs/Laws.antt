@@ -1,0 +1,2 @@
+-- A law for the programs that read a snapshot.
+pub mod Accepted

@@ -1,0 +1,2 @@
+-- Laws about the definitions of specs/, for this crate's proofs.
+pub mod Paint

@@ -1,0 +1,80 @@
+-- Colours painted one by one.
+use Prim.Native.Nat.{ℕ, suc, _+_, _*_, _≤_, _<_}
+use native.Mathlib.Numerals.{add-one}
+use native.Mathlib.Omega.{arith}
+use mathlib.Core.Path.{_≡_, refl, sym, ap, ap₂, _∙_}
+use mathlib.Core.Bool.{true}
+use mathlib.Core.List.{List, [], _∷_, _++_, append-assoc, append-nil}
+use lib.ListN.{length, getD, take, drop, set, length-append, length-drop, drop-of-length-le}
+use lib.Seq.{sets-eq, take-suc, take-all, take-at, drop-at, drop-drop, length-take-le}
+use Rattle.chip.specs.State.{wellFormed}
+use Rattle.chip.specs.declared.state.Chip.{Chip}
+use Rattle.scanline.specs.Calls.{colours, drawLineLine}
+use Rattle.text.proofs.Laws.Pieces.{line-drawn}
+use Rattle.picture.specs.Palette.{pixelOf}
+use Rattle.picture.specs.Picture.{painted}
+
+painted-one-more : (l : List ℕ) (c : ℕ) → painted (l ++ (c ∷ [])) ≡ painted l ++ pixelOf c
+unfolding painted
+painted-one-more [] c = append-nil (pixelOf c)
+painted-one-more (d ∷ l) c = ap (λ (t : List ℕ). pixelOf d ++ t) (painted-one-more l c) ∙ sym (append-assoc (pixelOf d) (painted l) (pixelOf c))
+
+pub length-painted : (l : List ℕ) → length (painted l) ≡ 3 * length l
+unfolding painted
+length-painted [] = refl
+length-painted (c ∷ l) = let h = length-painted l in omega arith
+
+-- three stores in a row
+three : (l : List ℕ) (n a b d : ℕ) → n + 3 ≤ length l → set (set (set l n a) (n + 1) b) (n + 2) d ≡ take n l ++ (a ∷ b ∷ d ∷ []) ++ drop (n + 3) l
+three l n a b d h =
+    ap₂ (λ (j k : ℕ). set (set (set l n a) j b) k d) (add-one n) (let e : n + 2 ≡ suc (suc n) = omega arith in e)
+    ∙ sets-eq (a ∷ b ∷ d ∷ []) l n h
+
+-- The first x colours are painted, and what follows is as it was.
+pub record Painting (colours out₀ out : List ℕ) (x : ℕ) : Type 0 where
+  pub so-far : out ≡ painted (take x colours) ++ drop (3 * x) out₀
+
+pub painting-none : {colours out : List ℕ} → Painting colours out out 0
+unfolding painted
+painting-none = record { so-far = refl }
+
+module _ {colours out₀ : List ℕ} (room : length out₀ ≡ 3 * length colours) where
+  pub painting-long : {out : List ℕ} {x : ℕ} → x ≤ length colours → Painting colours out₀ out x → length out ≡ length out₀
+  painting-long {out} {x} h g =
+      let whole = ap length (g .so-far) ∙ length-append (painted (take x colours)) (drop (3 * x) out₀) in
+      let front = length-painted (take x colours) in
+      let count = length-take-le x colours h in
+      let back = length-drop (3 * x) out₀ in
+      omega arith
+
+  pub painting-more : {out pixel : List ℕ} {x : ℕ} → x < length colours → pixel ≡ pixelOf (getD colours x 0) → Painting colours out₀ out x → Painting colours out₀ (set (set (set out (3 * x) (getD pixel 0 0)) (3 * x + 1) (getD pixel 1 0)) (3 * x + 2) (getD pixel 2 0)) (x + 1)
+  painting-more {out} {pixel} {x} h e g =
+      let c = getD colours x 0 in
+      let p = painted (take x colours) in
+      let front : length p ≡ 3 * x = length-painted (take x colours) ∙ ap (λ (k : ℕ). 3 * k) (length-take-le x colours (omega arith)) in
+      let long = painting-long (omega arith) g in
+      let kept : take (3 * x) out ≡ p = ap (take (3 * x)) (g .so-far) ∙ take-at p (drop (3 * x) out₀) (3 * x) front in
+      let rest : drop (3 * x) out ≡ drop (3 * x) out₀ = ap (drop (3 * x)) (g .so-far) ∙ drop-at p (drop (3 * x) out₀) (3 * x) front in
+      let on : 3 * x + 3 ≡ 3 * (x + 1) = omega arith in
+      let next : drop (3 * x + 3) out ≡ drop (3 * (x + 1)) out₀ =
+      sym (drop-drop 3 (3 * x) out) ∙ ap (drop 3) rest ∙ drop-drop 3 (3 * x) out₀ ∙ ap (λ (k : ℕ). drop k out₀) on in
+      let more : painted (take (x + 1) colours) ≡ p ++ pixelOf c =
+      ap painted (ap (λ (k : ℕ). take k colours) (add-one x) ∙ take-suc colours x 0 h) ∙ painted-one-more (take x colours) c in
+      record {
+        so-far =
+            ap (λ (q : List ℕ). set (set (set out (3 * x) (getD q 0 0)) (3 * x + 1) (getD q 1 0)) (3 * x + 2) (getD q 2 0)) e
+            ∙ three out (3 * x) _ _ _ (omega arith)
+            ∙ ap₂ (λ (s t : List ℕ). s ++ pixelOf c ++ t) kept next
+            ∙ ap (λ (s : List ℕ). s ++ drop (3 * (x + 1)) out₀) (sym more);
+      }
+
+  pub painting-all : {out : List ℕ} {x : ℕ} → x ≡ length colours → Painting colours out₀ out x → out ≡ painted colours
+  painting-all {out} {x} h g =
+      let past : length out₀ ≤ 3 * x = omega arith in
+      g .so-far
+      ∙ ap₂ (λ (s t : List ℕ). painted s ++ t) (take-all x colours (omega arith)) (drop-of-length-le out₀ past)
+      ∙ append-nil (painted colours)
+
+-- A line that is drawn and then painted.
+pub line-painted : {line out : List ℕ} (c : Chip) (vram given : List ℕ) (l : ℕ) → wellFormed c ≡ true → length vram ≡ 16384 → length given ≡ 256 → l < 192 → line ≡ drawLineLine c vram given l → out ≡ painted line → out ≡ painted (colours (c .registers) vram l)
+line-painted c vram given l ok full wide h drawn e = e ∙ ap painted (drawn ∙ line-drawn vram given full wide c ok l h)

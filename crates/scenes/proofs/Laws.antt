@@ -1,0 +1,2 @@
+-- A law about the definitions of specs/, for this crate's proofs.
+pub mod Put

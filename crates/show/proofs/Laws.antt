@@ -1,0 +1,2 @@
+-- A law about the text's definitions, for this crate's proofs.
+pub mod Status
