@@ -86,26 +86,31 @@ fn refresh(calls: &Calls, picture: &mut Picture, mode: usize, change: usize) {
 }
 
 fn refresh_table() {
-    let title = "refresh with 32 sprites of 16 by 16, of a full draw";
-    println!("{title:56}{:>6}{:>9}{:>9}{:>20}", "lines", "best", "median", "reference/library");
+    let title = "refresh, as a part of that full draw";
+    println!("{title:60}{:>6}{:>9}{:>9}{:>20}", "lines", "best", "median", "reference/library");
     for (mode, mode_name) in MODES.into_iter().enumerate() {
-        for (change, name) in CHANGES.into_iter().enumerate() {
-            let mut drawn = picture(mode, 1);
-            draw(&LIBRARY, &mut drawn);
-            let ours = |drawn: &mut Picture| refresh(&LIBRARY, drawn, mode, change);
-            let (times, whole) = in_turn(ROUNDS, &mut drawn, ours, |drawn| draw(&LIBRARY, drawn), 1);
-            let slow = time(SLOW_ROUNDS, 1, || refresh(&REFERENCE, &mut drawn, mode, change));
-            println!(
-                "{:56}{:>6}{:>9.4}{:>9.4}{:>20.1}",
-                format!("{mode_name}, {name}"),
-                drawn.lines,
-                times.best / whole.best,
-                times.median / whole.median,
-                slow.best / times.best
-            );
+        for (sprites, sprites_name) in SPRITES.into_iter().enumerate() {
+            for (change, name) in CHANGES.into_iter().enumerate() {
+                let title = format!("{mode_name}, {sprites_name}: {name}");
+                refresh_row(&title, picture(mode, sprites), mode, change);
+            }
         }
     }
     println!();
+}
+
+fn refresh_row(title: &str, mut drawn: Picture, mode: usize, change: usize) {
+    draw(&LIBRARY, &mut drawn);
+    let ours = |drawn: &mut Picture| refresh(&LIBRARY, drawn, mode, change);
+    let (times, whole) = in_turn(ROUNDS, &mut drawn, ours, |drawn| draw(&LIBRARY, drawn), 1);
+    let slow = time(SLOW_ROUNDS, 1, || refresh(&REFERENCE, &mut drawn, mode, change));
+    println!(
+        "{title:60}{:>6}{:>9.4}{:>9.4}{:>20.1}",
+        drawn.lines,
+        times.best / whole.best,
+        times.median / whole.median,
+        slow.best / times.best
+    );
 }
 
 fn port_table() {
