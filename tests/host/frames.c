@@ -72,6 +72,16 @@ static void fully_drawn(const char *what)
     check(memcmp(block, full.lent.block, 15) == 0 && map_clear(&full) && rest_kept(&full), what);
 }
 
+/* Status after all notes, in order. A note may be any byte: below 32 modulo 64 it is the number of a fifth sprite. */
+static uint8_t after_notes(uint8_t status, const uint8_t *notes)
+{
+    for (int l = 0; l < LINES; l++) {
+        if (notes[l] % 64 < 32 && (status & 0xC0) == 0) status = (uint8_t)((status & 0x20) + 0x40 + notes[l] % 64);
+        if (notes[l] / 64 % 2 == 1) status |= 0x20;
+    }
+    return status;
+}
+
 /* A refresh of 'now' redraws this many lines (-1: any number), and leaves what a full draw leaves. Over a foreign
  * frame it redraws as many: every line that has changed, and no other line or note than those that it counts. */
 static int refreshed(const char *what, int want)
@@ -96,7 +106,8 @@ static int refreshed(const char *what, int want)
             kept = kept && all(other.frame + LINE * l, LINE, FOREIGN) && other.notes[l] == FOREIGN && same_line(&before, &full, l);
         }
     check(kept && drawn == (int)got, told);
-    other.lent.block[13] = now.lent.block[13]; /* status follows the notes, and these were foreign */
+    check(other.lent.block[13] == after_notes(before.lent.block[13], other.notes), told);
+    other.lent.block[13] = now.lent.block[13]; /* the rest does not turn on the notes */
     check(memcmp(other.lent.block, now.lent.block, 15) == 0 && map_clear(&other) && rest_kept(&other), told);
     return (int)got;
 }
@@ -271,9 +282,36 @@ static void refusals(const char *name, call *call)
     }
 }
 
+/* Notes that a refresh keeps update status too: every byte as a note, on a line before one with sprite 9 as the fifth. */
+static void kept_notes(void)
+{
+    static const uint8_t statuses[] = { 0x00, 0x1F, 0x20, 0x45, 0x80 };
+    char told[80];
+    power_up(edge);
+    check(draw(vdp_full_draw, &now) == 0, "kept notes");
+    for (size_t i = 0; i < sizeof statuses; i++)
+        for (unsigned note = 0; note < 256; note++) {
+            other = now;
+            memset(other.notes, 32, LINES);
+            other.notes[100] = (uint8_t)note;
+            other.notes[150] = 9;
+            other.lent.block[13] = statuses[i];
+            snprintf(told, sizeof told, "status %02X, a kept note %02X", (unsigned)statuses[i], note);
+            check(draw(vdp_refresh, &other) == 0 && other.notes[100] == note && other.notes[150] == 9, told);
+            check(other.lent.block[13] == after_notes(statuses[i], other.notes), told);
+        }
+    other = now;
+    memset(other.notes, 32, LINES);
+    other.notes[100] = 64 + 7;
+    other.notes[150] = 9;
+    other.lent.block[13] = 0x1F;
+    check(draw(vdp_refresh, &other) == 0 && other.lent.block[13] == 0x67, "status 1F, a kept note 47: 67");
+}
+
 int main(void)
 {
     edge_cases();
+    kept_notes();
     rounds();
     refusals("full_draw", vdp_full_draw);
     refusals("refresh", vdp_refresh);
