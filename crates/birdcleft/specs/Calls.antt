@@ -48,10 +48,10 @@ abbrev pub dataWriteMap : List ℕ → List ℕ → List ℕ → List ℕ
 dataWriteMap block vram map = ifAccepted (dataWriteRefusal block vram map) (direct.dataWriteMap (chipOf block) vram map) map
 
 abbrev pub dataRead : List ℕ → List ℕ → FromC
-dataRead block vram = through (refusalOf (vramTest vram ∷ blockTests block)) block (λ c. direct.readData c vram)
+dataRead block vram = through (refusalOf (vramTest vram ∷ blockTests block)) block (λ c. direct.dataRead c vram)
 
 abbrev pub statusRead : List ℕ → FromC
-statusRead block = through (refusalOf (blockTests block)) block direct.readStatus
+statusRead block = through (refusalOf (blockTests block)) block direct.statusRead
 
 abbrev pub endOfDisplay : List ℕ → FromC
 endOfDisplay block = through (refusalOf (blockTests block)) block direct.endOfDisplay

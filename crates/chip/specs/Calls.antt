@@ -3,8 +3,8 @@ use Prim.Native.Nat.{ℕ}
 use mir.Val.{boolByte}
 use mathlib.Core.List.{List, [], _∷_}
 use Rattle.chip.specs.State.{powerUpState}
-use Rattle.chip.specs.Map.{mapSize, marked}
-use Rattle.chip.specs.Ports.{control, dataWritten, stored, dataRead, statusRead, displayEnded, interruptOn, wasReset, clearedVram}
+use Rattle.chip.specs.Map.{mapSize, setDirty}
+use Rattle.chip.specs.Ports.{control, dataWritten, stored, afterDataRead, afterStatusRead, displayEnded, interruptOn, wasReset, clearedVram}
 use Rattle.chip.specs.Refusals.{vramTest, sliceTest, stateTest, refusalOf, ifAccepted, answered}
 use Rattle.chip.specs.declared.state.Chip.{Chip}
 use Rattle.chip.specs.declared.refusal.Answer.{Answer}
@@ -33,13 +33,13 @@ abbrev pub dataWriteVram : Chip → List ℕ → List ℕ → ℕ → List ℕ
 dataWriteVram c vram map b = ifAccepted (dataWriteRefusal c vram map) (stored b c vram) vram
 
 abbrev pub dataWriteMap : Chip → List ℕ → List ℕ → List ℕ
-dataWriteMap c vram map = ifAccepted (dataWriteRefusal c vram map) (marked map (c .address)) map
+dataWriteMap c vram map = ifAccepted (dataWriteRefusal c vram map) (setDirty map (c .address)) map
 
-abbrev pub readData : Chip → List ℕ → Answer
-readData c vram = answered (refusalOf (vramTest vram ∷ stateTest c ∷ [])) c (dataRead vram c) (c .buffer)
+abbrev pub dataRead : Chip → List ℕ → Answer
+dataRead c vram = answered (refusalOf (vramTest vram ∷ stateTest c ∷ [])) c (afterDataRead vram c) (c .buffer)
 
-abbrev pub readStatus : Chip → Answer
-readStatus c = answered (refusalOf (stateTest c ∷ [])) c (statusRead c) (c .status)
+abbrev pub statusRead : Chip → Answer
+statusRead c = answered (refusalOf (stateTest c ∷ [])) c (afterStatusRead c) (c .status)
 
 abbrev pub endOfDisplay : Chip → Answer
 endOfDisplay c = answered (refusalOf (stateTest c ∷ [])) c (displayEnded c) 0

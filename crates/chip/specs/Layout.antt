@@ -18,14 +18,14 @@ encoded c =
 
 -- The state that 14 bytes hold, beside the redraw mark, which they do not.
 abbrev pub decoded : List ℕ → Bool → Chip
-decoded b mark =
+decoded b redraw =
     record {
       registers = take 8 b;
       address = getD b 8 0 + 256 * getD b 9 0;
       buffer = getD b 10 0;
       waiting = waitingOf (getD b 11 0) (getD b 12 0);
       status = getD b 13 0;
-      redraw = mark;
+      redraw = redraw;
     }
 
 -- Whether 14 bytes hold a state: the flag is 1, or it is 0 and so is the first byte; and the state is well-formed.

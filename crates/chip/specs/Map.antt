@@ -9,9 +9,9 @@ abbrev pub mapSize : ℕ
 mapSize = 2048
 
 -- The map with VRAM byte i's bit set.
-abbrev pub marked : List ℕ → ℕ → List ℕ
-marked map i = set map (i / 8) (setBit (i % 8) (getD map (i / 8) 0))
+abbrev pub setDirty : List ℕ → ℕ → List ℕ
+setDirty map i = set map (i / 8) (setBit (i % 8) (getD map (i / 8) 0))
 
 -- Whether VRAM byte i's bit is set.
-abbrev pub isMarked : List ℕ → ℕ → Bool
-isMarked map i = bit (i % 8) (getD map (i / 8) 0)
+abbrev pub isDirty : List ℕ → ℕ → Bool
+isDirty map i = bit (i % 8) (getD map (i / 8) 0)

@@ -11,12 +11,12 @@ use Rattle.chip.specs.declared.state.Waiting.{Waiting}
 use Rattle.chip.specs.declared.state.Waiting.the-variants.{Nothing, First}
 
 -- The address one step on: from 16,383 it goes to 0.
-abbrev pub stepped : ℕ → ℕ
-stepped a = (a + 1) % vramSize
+abbrev pub nextAddress : ℕ → ℕ
+nextAddress a = (a + 1) % vramSize
 
 -- The buffer takes VRAM at the address, which steps.
 abbrev pub prefetched : List ℕ → Chip → Chip
-prefetched vram c = withAddress (stepped (c .address)) (withBuffer (getD vram (c .address) 0) c)
+prefetched vram c = withAddress (nextAddress (c .address)) (withBuffer (getD vram (c .address) 0) c)
 
 -- Register n takes what it keeps of byte a. Where that alters the register, the redraw mark is set.
 abbrev pub registerWritten : ℕ → ℕ → Chip → Chip
@@ -39,18 +39,18 @@ control b vram c = controlBy (c .waiting) b vram c
 
 -- Data write: VRAM at the address and the buffer take the byte, the address steps, nothing waits. (Its map bit: see Map.)
 abbrev pub dataWritten : ℕ → Chip → Chip
-dataWritten b c = withWaiting Nothing (withAddress (stepped (c .address)) (withBuffer b c))
+dataWritten b c = withWaiting Nothing (withAddress (nextAddress (c .address)) (withBuffer b c))
 
 abbrev pub stored : ℕ → Chip → List ℕ → List ℕ
 stored b c vram = set vram (c .address) b
 
 -- Data read: answers the buffer, which is then filled again; nothing waits.
-abbrev pub dataRead : List ℕ → Chip → Chip
-dataRead vram c = withWaiting Nothing (prefetched vram c)
+abbrev pub afterDataRead : List ℕ → Chip → Chip
+afterDataRead vram c = withWaiting Nothing (prefetched vram c)
 
 -- Status read: answers status, then F (hex 80), 5S (40) and C (20) are clear and the low five bits stay; nothing waits.
-abbrev pub statusRead : Chip → Chip
-statusRead c = withWaiting Nothing (withStatus (c .status % 32) c)
+abbrev pub afterStatusRead : Chip → Chip
+afterStatusRead c = withWaiting Nothing (withStatus (c .status % 32) c)
 
 -- End of active display sets F.
 abbrev pub displayEnded : Chip → Chip

@@ -55,13 +55,13 @@ gives [] r = false
 gives (t ∷ ts) r = eqb (numberOf (t .refusal)) (numberOf r) && not (t .passes) || gives ts r
 
 -- The first refusal of a list that one of the tests gives.
-abbrev pub firstOf : List Refusal → List Test → Refusal
-firstOf [] ts = Accepted
-firstOf (r ∷ rs) ts = cond (gives ts r) r (firstOf rs ts)
+abbrev pub firstGiven : List Refusal → List Test → Refusal
+firstGiven [] ts = Accepted
+firstGiven (r ∷ rs) ts = cond (gives ts r) r (firstGiven rs ts)
 
 -- A call that makes these tests is answered so.
 abbrev pub refusalOf : List Test → Refusal
-refusalOf ts = firstOf order ts
+refusalOf ts = firstGiven order ts
 
 -- What a call leaves: the new where it is accepted, the old where it is refused.
 module _ {A : Type 0} where

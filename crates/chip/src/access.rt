@@ -2,13 +2,13 @@
 ghost use mathlib.Core.Path.{_≡_};
 ghost use Prim.Native.Nat.{_≤_};
 ghost use lib.ListN.{length};
-ghost use Rattle.chip.specs.Ports.{stepped, prefetched};
+ghost use Rattle.chip.specs.Ports.{nextAddress, prefetched};
 use crate::state::Chip;
 
 // The address after an access at a.
 pub fn step(a: u16) -> u16
     requires { ⌜ a ≤ 16383 ⌝ }
-    ensures { λ r. ⌜ r ≡ stepped a ⌝ }
+    ensures { λ r. ⌜ r ≡ nextAddress a ⌝ }
 {
     (a + 1) % 16384
 }

@@ -3,10 +3,10 @@ ghost use mathlib.Core.Path.{_≡_};
 ghost use Prim.Native.Nat.{_≤_};
 ghost use lib.ListN.{length};
 ghost use Rattle.chip.specs.Ports.{dataWritten, stored};
-ghost use Rattle.chip.specs.Map.{marked};
+ghost use Rattle.chip.specs.Map.{setDirty};
 ghost use Rattle.chip.specs.Calls as calls;
 use crate::access::step;
-use crate::map::mark;
+use crate::map::set_dirty;
 use crate::refusal::Answer;
 use crate::refusal::Refusal;
 use crate::state::Chip;
@@ -17,11 +17,11 @@ impl Chip {
         requires { ⌜ (self .address ≤ 16383) × (length (now vram) ≡ 16384) × (length (now map) ≡ 2048) ⌝ }
         ensures { λ r. ⌜ r ≡ dataWritten b self ⌝ }
         ensures { λ _. ⌜ now (vram .exit) ≡ stored b self (now (vram .entry)) ⌝ }
-        ensures { λ _. ⌜ now (map .exit) ≡ marked (now (map .entry)) (self .address) ⌝ }
+        ensures { λ _. ⌜ now (map .exit) ≡ setDirty (now (map .entry)) (self .address) ⌝ }
     {
         let at = self.address;
         vram[at as usize] = b;
-        mark(map, at as usize);
+        set_dirty(map, at as usize);
         let mut written = self.with_waiting(Waiting::Nothing);
         written.buffer = b;
         written.address = step(at);
@@ -47,7 +47,7 @@ impl Chip {
     }
 
     pub fn data_read(self, vram: &[u8]) -> Answer
-        ensures { λ r. ⌜ r ≡ calls.readData self (now (vram .entry)) ⌝ }
+        ensures { λ r. ⌜ r ≡ calls.dataRead self (now (vram .entry)) ⌝ }
     {
         if vram.len() != 16384 {
             return self.refused(Refusal::VramLength);

@@ -10,7 +10,7 @@ use crate::state::Waiting;
 
 impl Chip {
     pub fn status_read(self) -> Answer
-        ensures { λ r. ⌜ r ≡ calls.readStatus self ⌝ }
+        ensures { λ r. ⌜ r ≡ calls.statusRead self ⌝ }
     {
         if !self.is_well_formed() {
             return self.refused(Refusal::IllFormed);

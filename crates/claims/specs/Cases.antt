@@ -5,7 +5,7 @@ use mathlib.Core.Bool.{true, false}
 use mathlib.Core.List.{List, [], _∷_, _++_}
 use lib.ListN.{set, replicate}
 use lib.Seq.{sets}
-use Rattle.chip.specs.Calls.{controlWrite, dataWrite, dataWriteVram, dataWriteMap, readStatus}
+use Rattle.chip.specs.Calls.{controlWrite, dataWrite, dataWriteVram, dataWriteMap, statusRead}
 use Rattle.scanline.specs.Calls.{colours, drawLine}
 use Rattle.chip.specs.declared.state.Chip.{Chip}
 use Rattle.chip.specs.declared.state.Waiting.{Waiting}
@@ -36,7 +36,7 @@ write b h =
     }
 
 abbrev pub status : Held → Held
-status h = record { chip = readStatus (h .chip) .chip; vram = h .vram; map = h .map }
+status h = record { chip = statusRead (h .chip) .chip; vram = h .vram; map = h .map }
 
 -- Different bytes at 3FFF, 0, 42 and 43, so that a wrong address shows.
 abbrev pub memory : List ℕ
@@ -56,7 +56,7 @@ state address buffer waiting status =
 abbrev pub start : Held
 start = record { chip = state 0x1234 0x99 Nothing 0x4C; vram = memory; map = noMarks }
 
--- P1: control 42, 40, data AA: VRAM 0042 and the buffer are AA, the address 0043; the byte is marked, and all else stays.
+-- P1: control 42, 40, data AA: VRAM 0042 and the buffer are AA, the address 0043; the byte is dirty, and all else stays.
 abbrev pub P1 : Type 0
 P1 = write 0xAA (control 0x40 (control 0x42 start)) ≡ record { chip = state 0x43 0xAA Nothing 0x4C; vram = set memory 0x42 0xAA; map = set noMarks 8 4 }
 
@@ -156,7 +156,7 @@ P9 = (statusAt100 0x00 ≡ 0x4C) × (statusAt100 0x80 ≡ 0x80) × (statusAt100 
 
 -- P10: reading status 4C returns 4C and leaves 0C.
 abbrev pub P10 : Type 0
-P10 = readStatus (start .chip) ≡ record { chip = state 0x1234 0x99 Nothing 0x0C; refusal = Accepted; value = 0x4C }
+P10 = statusRead (start .chip) ≡ record { chip = state 0x1234 0x99 Nothing 0x0C; refusal = Accepted; value = 0x4C }
 
 -- P11: all planes 0: colour 1 with external video off, 0 with it on.
 abbrev pub P11 : Type 0

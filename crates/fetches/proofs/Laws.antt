@@ -7,8 +7,8 @@ use mathlib.Core.Path.{_≡_, refl, sym, ap, _∙_}
 use mathlib.Core.Bool.{Bool, true, false, _||_}
 use mathlib.Core.List.{List, [], _∷_, _++_, append-nil}
 use lib.ListN.{getD}
-use Rattle.chip.specs.Map.{isMarked}
-use Rattle.fetches.specs.Fetch.{Fetch, answer, fetch, value, fetched, followed, each, Agree, anyMarked}
+use Rattle.chip.specs.Map.{isDirty}
+use Rattle.fetches.specs.Fetch.{Fetch, answer, fetch, value, fetched, followed, each, Agree, anyDirty}
 
 module _ {A : Type 0} where
   -- Memories that agree on the bytes fetched give the same answer ..
@@ -63,32 +63,32 @@ module _ {A : Type 0} (f : ℕ → Fetch A) (m : List ℕ) where
   unfolding each fetched
   fetched-none i = refl
 
--- the map marks one of two lists' addresses where it marks one of either's
-pub marked-append : (map a b : List ℕ) → anyMarked map (a ++ b) ≡ (anyMarked map a || anyMarked map b)
-marked-append map [] b = refl
-marked-append map (x ∷ a) b = ap (λ (t : Bool). isMarked map x || t) (marked-append map a b) ∙ or-assoc (isMarked map x) (anyMarked map a) (anyMarked map b)
+-- one of two lists' addresses is dirty where one of either's is
+pub dirty-append : (map a b : List ℕ) → anyDirty map (a ++ b) ≡ (anyDirty map a || anyDirty map b)
+dirty-append map [] b = refl
+dirty-append map (x ∷ a) b = ap (λ (t : Bool). isDirty map x || t) (dirty-append map a b) ∙ or-assoc (isDirty map x) (anyDirty map a) (anyDirty map b)
   where
     or-assoc : (p q r : Bool) → (p || (q || r)) ≡ (p || q || r)
     or-assoc true q r = refl
     or-assoc false q r = refl
 
--- A loop over a row of descriptions that looks for a marked byte: what it has still to look at decides.
+-- A loop over a row of descriptions that looks for a dirty byte: what it has still to look at decides.
 module _ {A : Type 0} (f : ℕ → Fetch A) (map m : List ℕ) where
   abbrev pub from : ℕ → ℕ → Bool
-  from i n = anyMarked map (fetched (each i (n - i) f) m)
+  from i n = anyDirty map (fetched (each i (n - i) f) m)
 
-  here : (i n : ℕ) → i < n → from i n ≡ (anyMarked map (fetched (f i) m) || from (i + 1) n)
+  here : (i n : ℕ) → i < n → from i n ≡ (anyDirty map (fetched (f i) m) || from (i + 1) n)
   here i n h =
       let e : n - i ≡ suc (n - (i + 1)) = omega arith in
-      rw (e, fetched-each f m i (n - (i + 1)), marked-append map (fetched (f i) m), add-one)
+      rw (e, fetched-each f m i (n - (i + 1)), dirty-append map (fetched (f i) m), add-one)
 
-  pub marked-here : (i n : ℕ) → i < n → anyMarked map (fetched (f i) m) ≡ true → from i n ≡ true
-  marked-here i n h t = here i n h ∙ ap (λ (b : Bool). b || from (i + 1) n) t
+  pub dirty-here : (i n : ℕ) → i < n → anyDirty map (fetched (f i) m) ≡ true → from i n ≡ true
+  dirty-here i n h t = here i n h ∙ ap (λ (b : Bool). b || from (i + 1) n) t
 
-  pub marked-next : (i n : ℕ) → i < n → anyMarked map (fetched (f i) m) ≡ false → from i n ≡ from (i + 1) n
-  marked-next i n h t = here i n h ∙ ap (λ (b : Bool). b || from (i + 1) n) t
+  pub dirty-next : (i n : ℕ) → i < n → anyDirty map (fetched (f i) m) ≡ false → from i n ≡ from (i + 1) n
+  dirty-next i n h t = here i n h ∙ ap (λ (b : Bool). b || from (i + 1) n) t
 
-  pub marked-end : (i n : ℕ) → n ≤ i → from i n ≡ false
-  marked-end i n h =
+  pub dirty-end : (i n : ℕ) → n ≤ i → from i n ≡ false
+  dirty-end i n h =
       let e : n - i ≡ 0 = omega arith in
       rw (e, fetched-none f m i)

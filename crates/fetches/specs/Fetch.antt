@@ -5,7 +5,7 @@ use mathlib.Core.Path.{_≡_}
 use mathlib.Core.Bool.{Bool, false, _||_}
 use mathlib.Core.List.{List, [], _∷_}
 use lib.ListN.{getD}
-use Rattle.chip.specs.Map.{isMarked}
+use Rattle.chip.specs.Map.{isDirty}
 
 pub data Fetch (A : Type 0) : Type 0 where
   answer : A → Fetch A
@@ -39,7 +39,7 @@ abbrev pub Agree : List ℕ → List ℕ → List ℕ → Type 0
 Agree [] m n = Unit {0}
 Agree (a ∷ l) m n = (getD m a 0 ≡ getD n a 0) × Agree l m n
 
--- Whether the map marks one of these addresses.
-abbrev pub anyMarked : List ℕ → List ℕ → Bool
-anyMarked map [] = false
-anyMarked map (a ∷ l) = isMarked map a || anyMarked map l
+-- Whether one of these addresses is dirty: the map has its bit.
+abbrev pub anyDirty : List ℕ → List ℕ → Bool
+anyDirty map [] = false
+anyDirty map (a ∷ l) = isDirty map a || anyDirty map l

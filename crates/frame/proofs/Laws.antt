@@ -3,7 +3,7 @@ pub mod Status
 pub mod Lines
 pub mod Redraw
 pub mod Due
-pub mod Marks
+pub mod Dirty
 pub mod Clean
 pub mod Calls
 pub mod Still

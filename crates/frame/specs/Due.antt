@@ -4,28 +4,28 @@ use mathlib.Core.Bool.{Bool, cond, _||_}
 use mathlib.Core.List.{List}
 use lib.ListN.{getD}
 use Rattle.chip.specs.Lists.{tabulate}
-use Rattle.fetches.specs.Fetch.{fetched, anyMarked}
+use Rattle.fetches.specs.Fetch.{fetched, anyDirty}
 use Rattle.scanline.specs.Line.{lineOf}
 use Rattle.scanline.specs.Calls.{noteAt, colours}
 use Rattle.frame.specs.Lines.{lineCount, endToEnd, lineAt, countBelow}
 
 -- Whether line l has to be redrawn: always while the redraw mark is set, otherwise if a byte that it fetches is dirty.
 unfoldable pub due : Bool → List ℕ → List ℕ → List ℕ → ℕ → Bool
-due mark r vram map l = mark || anyMarked map (fetched (lineOf r l) vram)
+due redraw r vram map l = redraw || anyDirty map (fetched (lineOf r l) vram)
 
 -- Line l of the frame after a refresh, and its note: drawn anew if due, as lent if not.
 abbrev pub newLine : Bool → List ℕ → List ℕ → List ℕ → List ℕ → ℕ → List ℕ
-newLine mark r vram map frame l = cond (due mark r vram map l) (colours r vram l) (lineAt frame l)
+newLine redraw r vram map frame l = cond (due redraw r vram map l) (colours r vram l) (lineAt frame l)
 
 abbrev pub newNote : Bool → List ℕ → List ℕ → List ℕ → List ℕ → ℕ → ℕ
-newNote mark r vram map notes l = cond (due mark r vram map l) (noteAt r vram l) (getD notes l 0)
+newNote redraw r vram map notes l = cond (due redraw r vram map l) (noteAt r vram l) (getD notes l 0)
 
 abbrev pub newFrame : Bool → List ℕ → List ℕ → List ℕ → List ℕ → List ℕ
-newFrame mark r vram map frame = endToEnd lineCount (newLine mark r vram map frame)
+newFrame redraw r vram map frame = endToEnd lineCount (newLine redraw r vram map frame)
 
 abbrev pub newNotes : Bool → List ℕ → List ℕ → List ℕ → List ℕ → List ℕ
-newNotes mark r vram map notes = tabulate lineCount (newNote mark r vram map notes)
+newNotes redraw r vram map notes = tabulate lineCount (newNote redraw r vram map notes)
 
 -- What a refresh reports: the count of due lines among the 192.
 abbrev pub dueCount : Bool → List ℕ → List ℕ → List ℕ → ℕ
-dueCount mark r vram map = countBelow lineCount (due mark r vram map)
+dueCount redraw r vram map = countBelow lineCount (due redraw r vram map)

@@ -35,23 +35,23 @@ fn tested(chip: Chip, vram: &[u8], map: &[u8], frame: &[u8], notes: &[u8]) -> Re
     Refusal::Accepted
 }
 
-// Redraws what is due with this redraw mark, updates status by all notes, and clears map and mark. Answers the count.
+// Redraws what is due with this redraw mark, updates status by all notes, and clears map and redraw mark. Answers the count.
 fn draw_due(
     chip: Chip,
-    mark: bool,
+    redraw: bool,
     vram: &[u8],
     map: &mut [u8],
     frame: &mut [u8],
     notes: &mut [u8],
 ) -> Answer
     requires { ⌜ (masked (chip .registers) ≡ true) × (length (now vram) ≡ 16384) × (length (now map) ≡ 2048) × (length (now frame) ≡ 49152) × (length (now notes) ≡ 192) ⌝ }
-    ensures { λ r. ⌜ r ≡ record { chip = drawnState chip (newNotes mark (chip .registers) (now (vram .entry)) (now (map .entry)) (now (notes .entry))); refusal = Refusal.Accepted; value = dueCount mark (chip .registers) (now (vram .entry)) (now (map .entry)) } ⌝ }
+    ensures { λ r. ⌜ r ≡ record { chip = drawnState chip (newNotes redraw (chip .registers) (now (vram .entry)) (now (map .entry)) (now (notes .entry))); refusal = Refusal.Accepted; value = dueCount redraw (chip .registers) (now (vram .entry)) (now (map .entry)) } ⌝ }
     ensures { λ _. ⌜ now (map .exit) ≡ clearMap ⌝ }
-    ensures { λ _. ⌜ now (frame .exit) ≡ newFrame mark (chip .registers) (now (vram .entry)) (now (map .entry)) (now (frame .entry)) ⌝ }
-    ensures { λ _. ⌜ now (notes .exit) ≡ newNotes mark (chip .registers) (now (vram .entry)) (now (map .entry)) (now (notes .entry)) ⌝ }
+    ensures { λ _. ⌜ now (frame .exit) ≡ newFrame redraw (chip .registers) (now (vram .entry)) (now (map .entry)) (now (frame .entry)) ⌝ }
+    ensures { λ _. ⌜ now (notes .exit) ≡ newNotes redraw (chip .registers) (now (vram .entry)) (now (map .entry)) (now (notes .entry)) ⌝ }
 {
     let registers = chip.registers;
-    let redrawn = redraw_lines(mark, registers, vram, map, frame, notes);
+    let redrawn = redraw_lines(redraw, registers, vram, map, frame, notes);
     let mut next = chip;
     next.status = status_through(chip.status, notes);
     next.redraw = false;

@@ -7,7 +7,7 @@ ghost use Rattle.chip.specs.State.{masked};
 ghost use Rattle.scanline.specs.Calls.{noteAt, colours};
 ghost use Rattle.frame.specs.Due as due;
 use scanline::draw_row;
-use scanline::line_marked;
+use scanline::line_dirty;
 
 // A line's note, and whether the line was redrawn.
 pub struct Turn {
@@ -16,19 +16,19 @@ pub struct Turn {
 }
 
 // Whether line l is due. With the redraw mark set no map is read.
-fn is_due(mark: bool, r: [u8; 8], vram: &[u8], map: &[u8], l: u8) -> bool
+fn is_due(redraw: bool, r: [u8; 8], vram: &[u8], map: &[u8], l: u8) -> bool
     requires { ⌜ (masked r ≡ true) × (length (now vram) ≡ 16384) × (length (now map) ≡ 2048) × (l < 192) ⌝ }
-    ensures { λ b. ⌜ b ≡ due.due mark r (now (vram .entry)) (now (map .entry)) l ⌝ }
+    ensures { λ b. ⌜ b ≡ due.due redraw r (now (vram .entry)) (now (map .entry)) l ⌝ }
 {
-    if mark {
+    if redraw {
         return true;
     }
-    line_marked(r, vram, map, l)
+    line_dirty(r, vram, map, l)
 }
 
 // Redraws line l into its part of the frame if it is due.
 fn redraw_line(
-    mark: bool,
+    redraw: bool,
     r: [u8; 8],
     vram: &[u8],
     map: &[u8],
@@ -37,11 +37,11 @@ fn redraw_line(
     note: u8,
 ) -> Turn
     requires { ⌜ (masked r ≡ true) × (length (now vram) ≡ 16384) × (length (now map) ≡ 2048) × (l < 192) × (length (now line) ≡ 256) ⌝ }
-    ensures { λ t. ⌜ t .redrawn ≡ due.due mark r (now (vram .entry)) (now (map .entry)) l ⌝ }
-    ensures { λ t. ⌜ t .note ≡ cond (due.due mark r (now (vram .entry)) (now (map .entry)) l) (noteAt r (now (vram .entry)) l) note ⌝ }
-    ensures { λ _. ⌜ now (line .exit) ≡ cond (due.due mark r (now (vram .entry)) (now (map .entry)) l) (colours r (now (vram .entry)) l) (now (line .entry)) ⌝ }
+    ensures { λ t. ⌜ t .redrawn ≡ due.due redraw r (now (vram .entry)) (now (map .entry)) l ⌝ }
+    ensures { λ t. ⌜ t .note ≡ cond (due.due redraw r (now (vram .entry)) (now (map .entry)) l) (noteAt r (now (vram .entry)) l) note ⌝ }
+    ensures { λ _. ⌜ now (line .exit) ≡ cond (due.due redraw r (now (vram .entry)) (now (map .entry)) l) (colours r (now (vram .entry)) l) (now (line .entry)) ⌝ }
 {
-    if is_due(mark, r, vram, map, l) {
+    if is_due(redraw, r, vram, map, l) {
         let drawn = draw_row(r, vram, l, line);
         return Turn {
             note: drawn,
@@ -56,7 +56,7 @@ fn redraw_line(
 
 // Asks every line whether it is due, redraws those that are, and counts them.
 fn redraw_each(
-    mark: bool,
+    redraw: bool,
     r: [u8; 8],
     vram: &[u8],
     map: &[u8],
@@ -64,16 +64,16 @@ fn redraw_each(
     notes: &mut [u8],
 ) -> u8
     requires { ⌜ (masked r ≡ true) × (length (now vram) ≡ 16384) × (length (now map) ≡ 2048) × (length (now frame) ≡ 49152) × (length (now notes) ≡ 192) ⌝ }
-    ensures { λ n. ⌜ n ≡ due.dueCount mark r (now (vram .entry)) (now (map .entry)) ⌝ }
-    ensures { λ _. ⌜ now (frame .exit) ≡ due.newFrame mark r (now (vram .entry)) (now (map .entry)) (now (frame .entry)) ⌝ }
-    ensures { λ _. ⌜ now (notes .exit) ≡ due.newNotes mark r (now (vram .entry)) (now (map .entry)) (now (notes .entry)) ⌝ }
+    ensures { λ n. ⌜ n ≡ due.dueCount redraw r (now (vram .entry)) (now (map .entry)) ⌝ }
+    ensures { λ _. ⌜ now (frame .exit) ≡ due.newFrame redraw r (now (vram .entry)) (now (map .entry)) (now (frame .entry)) ⌝ }
+    ensures { λ _. ⌜ now (notes .exit) ≡ due.newNotes redraw r (now (vram .entry)) (now (map .entry)) (now (notes .entry)) ⌝ }
 {
     let mut redrawn: u8 = 0;
     let mut l: u8 = 0;
     while l < 192 {
         let i = l as usize;
         let at = 256 * i;
-        let turn = redraw_line(mark, r, vram, map, l, &mut frame[at..at + 256], notes[i]);
+        let turn = redraw_line(redraw, r, vram, map, l, &mut frame[at..at + 256], notes[i]);
         notes[i] = turn.note;
         redrawn += turn.redrawn as u8;
         l += 1;
@@ -94,9 +94,9 @@ fn is_clear(map: &[u8]) -> bool
     joined == 0
 }
 
-// Redraws the due lines, and counts them. With mark and map clear none is due, and no line is asked.
+// Redraws the due lines, and counts them. With redraw and map clear none is due, and no line is asked.
 pub fn redraw_lines(
-    mark: bool,
+    redraw: bool,
     r: [u8; 8],
     vram: &[u8],
     map: &[u8],
@@ -104,12 +104,12 @@ pub fn redraw_lines(
     notes: &mut [u8],
 ) -> u8
     requires { ⌜ (masked r ≡ true) × (length (now vram) ≡ 16384) × (length (now map) ≡ 2048) × (length (now frame) ≡ 49152) × (length (now notes) ≡ 192) ⌝ }
-    ensures { λ n. ⌜ n ≡ due.dueCount mark r (now (vram .entry)) (now (map .entry)) ⌝ }
-    ensures { λ _. ⌜ now (frame .exit) ≡ due.newFrame mark r (now (vram .entry)) (now (map .entry)) (now (frame .entry)) ⌝ }
-    ensures { λ _. ⌜ now (notes .exit) ≡ due.newNotes mark r (now (vram .entry)) (now (map .entry)) (now (notes .entry)) ⌝ }
+    ensures { λ n. ⌜ n ≡ due.dueCount redraw r (now (vram .entry)) (now (map .entry)) ⌝ }
+    ensures { λ _. ⌜ now (frame .exit) ≡ due.newFrame redraw r (now (vram .entry)) (now (map .entry)) (now (frame .entry)) ⌝ }
+    ensures { λ _. ⌜ now (notes .exit) ≡ due.newNotes redraw r (now (vram .entry)) (now (map .entry)) (now (notes .entry)) ⌝ }
 {
-    if !mark & is_clear(map) {
+    if !redraw & is_clear(map) {
         return 0;
     }
-    redraw_each(mark, r, vram, map, frame, notes)
+    redraw_each(redraw, r, vram, map, frame, notes)
 }

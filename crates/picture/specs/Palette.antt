@@ -12,5 +12,5 @@ green = 0 ∷ 0 ∷ 200 ∷ 219 ∷ 86 ∷ 118 ∷ 81 ∷ 236 ∷ 85 ∷ 121 ∷
 abbrev pub blue : List ℕ
 blue = 0 ∷ 0 ∷ 66 ∷ 120 ∷ 237 ∷ 252 ∷ 77 ∷ 245 ∷ 84 ∷ 120 ∷ 84 ∷ 128 ∷ 59 ∷ 186 ∷ 204 ∷ 255 ∷ []
 
-abbrev pub pixelOf : ℕ → List ℕ
-pixelOf c = getD red (c % 16) 0 ∷ getD green (c % 16) 0 ∷ getD blue (c % 16) 0 ∷ []
+abbrev pub rgbOf : ℕ → List ℕ
+rgbOf c = getD red (c % 16) 0 ∷ getD green (c % 16) 0 ∷ getD blue (c % 16) 0 ∷ []

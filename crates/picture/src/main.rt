@@ -5,7 +5,7 @@ ghost use mathlib.Core.Bool.{true};
 ghost use lib.ListN.{length};
 ghost use Rattle.chip.specs.State.{wellFormed};
 ghost use Rattle.scanline.specs.Calls as calls;
-ghost use Rattle.picture.specs.Palette.{pixelOf};
+ghost use Rattle.picture.specs.Palette.{rgbOf};
 ghost use Rattle.picture.specs.Picture.{painted};
 use chip::Chip;
 
@@ -70,7 +70,7 @@ const BLUE: [u8; 16] = [
 pub type Pixel = [u8; 3];
 
 fn pixel_of(colour: u8) -> Pixel
-    ensures { λ r. ⌜ r ≡ pixelOf colour ⌝ }
+    ensures { λ r. ⌜ r ≡ rgbOf colour ⌝ }
 {
     let c = (colour % 16) as usize;
     [RED[c], GREEN[c], BLUE[c]]

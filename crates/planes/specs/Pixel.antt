@@ -12,14 +12,14 @@ abbrev pub over : ℕ → ℕ → ℕ
 over front behind = cond (eqb front 0) behind front
 
 -- The first non-zero colour of a list, or what stands behind them all.
-abbrev pub firstOf : List ℕ → ℕ → ℕ
-firstOf [] behind = behind
-firstOf (c ∷ l) behind = over c (firstOf l behind)
+abbrev pub firstNonZero : List ℕ → ℕ → ℕ
+firstNonZero [] behind = behind
+firstNonZero (c ∷ l) behind = over c (firstNonZero l behind)
 
 -- Behind the pattern plane: the low nibble of register 7, and if that is 0 too, 1 with external video off and 0 with it on.
-abbrev pub rear : List ℕ → ℕ
-rear r = over (register 7 r % 16) (boolByte (not (externalVideo r)))
+abbrev pub behindPlanes : List ℕ → ℕ
+behindPlanes r = over (register 7 r % 16) (boolByte (not (externalVideo r)))
 
--- A pixel: the first non-zero of the sprites' colours, lowest number first, the pattern plane's, and the rear.
+-- A pixel: the first non-zero of the sprites' colours, lowest number first, the pattern plane's, and what stands behind.
 abbrev pub pixelOf : List ℕ → List ℕ → ℕ → ℕ
-pixelOf r sprites plane = firstOf sprites (over plane (rear r))
+pixelOf r sprites plane = firstNonZero sprites (over plane (behindPlanes r))

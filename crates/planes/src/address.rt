@@ -3,7 +3,7 @@ ghost use mathlib.Core.Path.{_≡_};
 ghost use mathlib.Core.Bool.{true};
 ghost use Prim.Native.Nat.{_<_};
 ghost use Rattle.chip.specs.State.{masked};
-ghost use Rattle.planes.specs.Cells.{cellsIn, nameAt, patternAt, coloursAt};
+ghost use Rattle.planes.specs.Cells.{cellsIn, nameAddress, patternAddress, colourAddress};
 use chip::Mode;
 
 // How many cells a line has.
@@ -20,17 +20,17 @@ pub fn cells_in(mode: Mode) -> usize
 }
 
 // The name of cell i of line l.
-pub fn name_at(mode: Mode, r: [u8; 8], l: usize, i: usize) -> usize
+pub fn name_address(mode: Mode, r: [u8; 8], l: usize, i: usize) -> usize
     requires { ⌜ (masked r ≡ true) × (l < 192) × (i < cellsIn mode) ⌝ }
-    ensures { λ a. ⌜ a ≡ nameAt mode r l i ⌝ }
+    ensures { λ a. ⌜ a ≡ nameAddress mode r l i ⌝ }
 {
     r[2] as usize * 1024 + (l / 8 * cells_in(mode) + i)
 }
 
 // The pattern byte of a name on line l.
-pub fn pattern_at(mode: Mode, r: [u8; 8], l: usize, name: u8) -> usize
+pub fn pattern_address(mode: Mode, r: [u8; 8], l: usize, name: u8) -> usize
     requires { ⌜ (masked r ≡ true) × (l < 192) ⌝ }
-    ensures { λ a. ⌜ a ≡ patternAt mode r l name ⌝ }
+    ensures { λ a. ⌜ a ≡ patternAddress mode r l name ⌝ }
 {
     let n = name as usize;
     let b = r[4] as usize;
@@ -44,9 +44,9 @@ pub fn pattern_at(mode: Mode, r: [u8; 8], l: usize, name: u8) -> usize
 }
 
 // The colours of a name on line l, in the modes that have a table of them.
-pub fn colours_at(mode: Mode, r: [u8; 8], l: usize, name: u8) -> usize
+pub fn colour_address(mode: Mode, r: [u8; 8], l: usize, name: u8) -> usize
     requires { ⌜ (masked r ≡ true) × (l < 192) ⌝ }
-    ensures { λ a. ⌜ a ≡ coloursAt mode r l name ⌝ }
+    ensures { λ a. ⌜ a ≡ colourAddress mode r l name ⌝ }
 {
     let n = name as usize;
     let b = r[3] as usize;

@@ -8,7 +8,7 @@ mod plane;
 
 pub use cell::Cell;
 pub use cell::cell_of;
-pub use due::plane_marked;
+pub use due::plane_dirty;
 pub use pixel::over;
-pub use pixel::rear_of;
+pub use pixel::behind_planes;
 pub use plane::draw_plane;

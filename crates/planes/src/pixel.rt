@@ -11,8 +11,8 @@ pub fn over(front: u8, behind: u8) -> u8
 }
 
 // What stands behind the pattern plane.
-pub fn rear_of(registers: [u8; 8]) -> u8
-    ensures { λ r. ⌜ r ≡ pixel.rear registers ⌝ }
+pub fn behind_planes(registers: [u8; 8]) -> u8
+    ensures { λ r. ⌜ r ≡ pixel.behindPlanes registers ⌝ }
 {
     let last = !bit(registers[0], 0);
     over(registers[7] % 16, last as u8)

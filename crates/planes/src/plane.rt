@@ -17,7 +17,7 @@ use crate::cell::cell_of;
 use crate::paint::paint_eight;
 use crate::paint::paint_six;
 use crate::pixel::over;
-use crate::pixel::rear_of;
+use crate::pixel::behind_planes;
 use chip::Mode;
 use chip::fill;
 
@@ -64,7 +64,7 @@ pub fn draw_plane(mode: Mode, r: [u8; 8], vram: &[u8], l: usize, line: &mut [u8]
     requires { ⌜ (masked r ≡ true) × (length (now vram) ≡ 16384) × (l < 192) × (length (now line) ≡ 256) ⌝ }
     ensures { λ _. ⌜ now (line .exit) ≡ tabulate 256 (λ x. pixel.pixelOf r [] (planeColour mode (value (planeOf mode r l) (now (vram .entry))) x)) ⌝ }
 {
-    let behind = rear_of(r);
+    let behind = behind_planes(r);
     fill(line, behind);
     let cells = cells_in(mode);
     let width = cell_width(mode);

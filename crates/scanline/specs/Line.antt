@@ -12,7 +12,7 @@ use Rattle.planes.specs.Plane.{planeColour}
 use Rattle.planes.specs.Pixel.{pixelOf}
 use Rattle.planes.specs.declared.cell.Cell.{Cell}
 use Rattle.sprites.specs.Scan.{Found, scanOf}
-use Rattle.sprites.specs.Pixels.{visible, coloursAt}
+use Rattle.sprites.specs.Pixels.{visible, spriteColours}
 use Rattle.sprites.specs.declared.scan.Ended.the-variants.{All}
 
 -- What was read for a line: its cells, and what the scan found.
@@ -43,7 +43,7 @@ lineOf r l = lineIn (modeOf r) r l
 
 -- The colour at column x: sprites, pattern plane and backdrop settle it.
 unfoldable pub colourAt : List ℕ → Row → ℕ → ℕ
-colourAt r row x = pixelOf r (coloursAt r (row .found .sprites) (visible x)) (planeColour (modeOf r) (row .cells) x)
+colourAt r row x = pixelOf r (spriteColours r (row .found .sprites) (visible x)) (planeColour (modeOf r) (row .cells) x)
 
 -- The 256 colours of a row.
 abbrev pub coloursOf : List ℕ → Row → List ℕ

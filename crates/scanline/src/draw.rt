@@ -6,8 +6,8 @@ ghost use lib.ListN.{length, getD};
 ghost use Rattle.chip.specs.Lists.{tabulate};
 ghost use Rattle.chip.specs.State.{masked};
 ghost use Rattle.fetches.specs.Fetch.{value};
-ghost use Rattle.planes.specs.Pixel.{firstOf};
-ghost use Rattle.sprites.specs.Pixels.{visible, coloursAt, coincidence};
+ghost use Rattle.planes.specs.Pixel.{firstNonZero};
+ghost use Rattle.sprites.specs.Pixels.{visible, spriteColours, coincidence};
 ghost use Rattle.sprites.specs.Scan.{scanOf, fifthOf};
 ghost use Rattle.scanline.specs.Line.{hasSprites};
 ghost use Rattle.scanline.specs.Notes.{noteBy};
@@ -31,7 +31,7 @@ pub fn has_sprites(mode: Mode) -> bool
 fn draw_sprites(r: [u8; 8], vram: &[u8], l: u8, line: &mut [u8]) -> u8
     requires { ⌜ (masked r ≡ true) × (length (now vram) ≡ 16384) × (length (now line) ≡ 256) ⌝ }
     ensures { λ n. ⌜ n ≡ noteBy (fifthOf (value (scanOf r l) (now (vram .entry)) .ended)) (coincidence r (value (scanOf r l) (now (vram .entry)) .sprites)) ⌝ }
-    ensures { λ _. ⌜ now (line .exit) ≡ tabulate 256 (λ x. firstOf (coloursAt r (value (scanOf r l) (now (vram .entry)) .sprites) (visible x)) (getD (now (line .entry)) x 0)) ⌝ }
+    ensures { λ _. ⌜ now (line .exit) ≡ tabulate 256 (λ x. firstNonZero (spriteColours r (value (scanOf r l) (now (vram .entry)) .sprites) (visible x)) (getD (now (line .entry)) x 0)) ⌝ }
 {
     let scan = sprites::scan_of(r, vram, l);
     let ended = scan.ended;

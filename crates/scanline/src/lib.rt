@@ -6,5 +6,5 @@ mod note;
 
 pub use call::draw_line;
 pub use draw::draw_row;
-pub use due::line_marked;
+pub use due::line_dirty;
 pub use note::status_after;

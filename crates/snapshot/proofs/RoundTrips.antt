@@ -13,7 +13,7 @@ use Rattle.chip.proofs.Laws.Refusals.{the-new}
 use Rattle.chip.proofs.Laws.Layout.{decoded-encoded}
 use Rattle.snapshot.specs.Format.{snapshotOf}
 use Rattle.snapshot.specs.Tests.{trailerAt, stateBytes, vramBytes}
-use Rattle.snapshot.specs.Calls.{writeRefusal, writeSnapshot, written, readRefusal, readSnapshot, readVram, butMark}
+use Rattle.snapshot.specs.Calls.{writeRefusal, writeSnapshot, written, readRefusal, readSnapshot, readVram, butRedraw}
 use Rattle.snapshot.proofs.Laws.Bytes.{bytes-snapshot}
 use Rattle.snapshot.proofs.Laws.Parts.{length-vram}
 use Rattle.snapshot.proofs.Laws.Refusals.{write-accepted, read-accepted, accepted-readable}
@@ -32,7 +32,7 @@ pub written-read : (c : Chip) → Fits c → wellFormed c ≡ true
     × Bytes file
     × (readSnapshot other old file .refusal ≡ Accepted)
     × (readVram old file ≡ vram)
-    × (butMark (readSnapshot other old file .chip) ≡ butMark c)
+    × (butRedraw (readSnapshot other old file .chip) ≡ butRedraw c)
 written-read c fits ok vram bytes long out room other old long-old =
     let writes : writeRefusal c vram out ≡ Accepted = write-accepted c vram out long room ok in
     let file : written c vram out ≡ snapshotOf c vram = the-new writes (snapshotOf c vram) out in
@@ -42,7 +42,7 @@ written-read c fits ok vram bytes long out room other old long-old =
       bytes-snapshot c vram fits bytes,
       reads,
       the-new reads (vramBytes (snapshotOf c vram)) old ∙ vram-back c (fits .eight) vram long,
-      ap butMark
+      ap butRedraw
           (the-new reads (decoded (stateBytes (snapshotOf c vram)) true) other
           ∙ ap (λ (b : List ℕ). decoded b true) (state-back c (fits .eight) vram long)
           ∙ decoded-encoded c (fits .eight) true),

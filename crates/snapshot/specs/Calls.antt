@@ -36,5 +36,5 @@ abbrev pub readVram : List ℕ → List ℕ → List ℕ
 readVram vram s = ifAccepted (readRefusal vram s) (vramBytes s) vram
 
 -- A state but for its redraw mark, which a snapshot does not keep: two states have the same exactly when they differ in the mark at most.
-abbrev pub butMark : Chip → Chip
-butMark c = withRedraw true c
+abbrev pub butRedraw : Chip → Chip
+butRedraw c = withRedraw true c

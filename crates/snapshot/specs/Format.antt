@@ -22,7 +22,7 @@ toVram = 16398
 abbrev pub lowFirst : ℕ → List ℕ
 lowFirst n = n % 256 ∷ n / 256 ∷ []
 
--- The trailer up to the sum: the mark hex 56 31, then the two distances.
+-- The trailer up to the sum: its signature hex 56 31, then the two distances.
 abbrev pub pointers : List ℕ
 pointers = 0x56 ∷ 0x31 ∷ (lowFirst toBlock ++ lowFirst toVram)
 

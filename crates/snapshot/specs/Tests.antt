@@ -28,7 +28,7 @@ vramBytes s = take vramSize (drop (trailerAt s - toVram) s)
 abbrev pub pairAt : List ℕ → ℕ → ℕ
 pairAt s i = getD s i 0 + 256 * getD s (i + 1) 0
 
--- Whether the mark and both distances are right.
+-- Whether the signature and both distances are right.
 unfoldable pub pointsBack : List ℕ → Bool
 pointsBack s =
     eqb (getD s (trailerAt s) 0) 0x56
@@ -40,7 +40,7 @@ pointsBack s =
 unfoldable pub sumRight : List ℕ → Bool
 sumRight s = eqb (pairAt s (sumAt s)) (checksum (take (sumAt s) s))
 
--- The tests of a snapshot: its length, its mark and distances, its sum, and that its 14 bytes hold a state.
+-- The tests of a snapshot: its length, its signature and distances, its sum, and that its 14 bytes hold a state.
 abbrev pub sizeTest : List ℕ → Test
 sizeTest s = record { refusal = SnapshotLength; passes = eqb (length s) snapshotSize }
 

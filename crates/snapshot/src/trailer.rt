@@ -6,7 +6,7 @@ ghost use Rattle.snapshot.specs.Format.{pointers};
 ghost use Rattle.snapshot.specs.Tests.{pairAt, pointsBack, sumRight};
 use crate::checksum::checksum;
 
-// The mark, and the distances back to the state (14) and to VRAM (16,398), low byte first.
+// The signature, and the distances back to the state (14) and to VRAM (16,398), low byte first.
 pub fn pointer_bytes() -> [u8; 6]
     ensures { λ r. ⌜ r ≡ pointers ⌝ }
 {
@@ -21,16 +21,16 @@ fn pair_at(s: &[u8], i: usize) -> u16
     s[i] as u16 + 256 * (s[i + 1] as u16)
 }
 
-// Whether the mark and both distances are right.
+// Whether the signature and both distances are right.
 pub fn points_back(s: &[u8]) -> bool
     requires { ⌜ 8 ≤ length (now s) ⌝ }
     ensures { λ r. ⌜ r ≡ pointsBack (now (s .entry)) ⌝ }
 {
     let trailer = s.len() - 8;
-    let mark = (s[trailer] == 0x56) & (s[trailer + 1] == 0x31);
+    let signature = (s[trailer] == 0x56) & (s[trailer + 1] == 0x31);
     let block = pair_at(s, trailer + 2);
     let vram = pair_at(s, trailer + 4);
-    mark & (block == 14) & (vram == 16398)
+    signature & (block == 14) & (vram == 16398)
 }
 
 // Whether the sum of all bytes before it is the one that stands there.

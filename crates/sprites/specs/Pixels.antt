@@ -19,9 +19,9 @@ hits r s c =
     leb (s .first) c && (ltb c (s .first + side r) && bit (15 - scaled (magnified r) (c - s .first)) (s .bits))
 
 -- The sprites' colours at a column, lowest number first: 0 where a sprite has no set bit.
-abbrev pub coloursAt : List ℕ → List Sprite → ℕ → List ℕ
-coloursAt r [] c = []
-coloursAt r (s ∷ l) c = cond (hits r s c) (s .colour) 0 ∷ coloursAt r l c
+abbrev pub spriteColours : List ℕ → List Sprite → ℕ → List ℕ
+spriteColours r [] c = []
+spriteColours r (s ∷ l) c = cond (hits r s c) (s .colour) 0 ∷ spriteColours r l c
 
 -- Whether one of the sprites has a set bit at a column, and whether two of them have, of whatever colour.
 abbrev pub anyHits : List ℕ → List Sprite → ℕ → Bool

@@ -13,31 +13,31 @@ use Rattle.sprites.specs.declared.scan.Ended.the-variants.{Terminator, F
 use Rattle.sprites.specs.declared.sprite.Sprite.{Sprite}
 
 -- Attribute k of sprite n (Y, X, name, colour byte).
-abbrev pub attributeAt : List ℕ → ℕ → ℕ → ℕ
-attributeAt r n k = register 5 r * 128 + (4 * n + k)
+abbrev pub attributeAddress : List ℕ → ℕ → ℕ → ℕ
+attributeAddress r n k = register 5 r * 128 + (4 * n + k)
 
 -- The pattern byte of a name on line l, for a sprite at y. With size the name's low two bits count as 0.
-unfoldable pub patternAt : List ℕ → ℕ → ℕ → ℕ → ℕ
-patternAt r l y name =
+unfoldable pub spritePatternAddress : List ℕ → ℕ → ℕ → ℕ → ℕ
+spritePatternAddress r l y name =
     register 6 r * 2048 + (8 * (name - cond (largeSprites r) (name % 4) 0) + scaled (magnified r) (rowOffset l y))
 
 -- The first column, counted from 32 left of the screen: X, less 32 when the colour byte has hex 80.
-abbrev pub firstOf : ℕ → ℕ → ℕ
-firstOf x c = cond (bit 7 c) x (x + 32)
+abbrev pub firstColumn : ℕ → ℕ → ℕ
+firstColumn x c = cond (bit 7 c) x (x + 32)
 
 -- A drawn sprite. The low nibble of its colour byte is the colour; the left half's bits stand above the right half's.
 abbrev pub spriteBy : ℕ → ℕ → ℕ → ℕ → Sprite
-spriteBy x c left right = record { first = firstOf x c; colour = c % 16; bits = left * 256 + right }
+spriteBy x c left right = record { first = firstColumn x c; colour = c % 16; bits = left * 256 + right }
 
 -- What is read of a sprite that is drawn: X, name, colour byte and one pattern byte, or with size two, the right half 16 bytes later.
 unfoldable pub spriteOf : List ℕ → ℕ → ℕ → ℕ → Fetch Sprite
 spriteOf r l n y =
-    fetch (attributeAt r n 1) λ x.
-    fetch (attributeAt r n 2) λ name.
-    fetch (attributeAt r n 3) λ c.
-    fetch (patternAt r l y name) λ left.
+    fetch (attributeAddress r n 1) λ x.
+    fetch (attributeAddress r n 2) λ name.
+    fetch (attributeAddress r n 3) λ c.
+    fetch (spritePatternAddress r l y name) λ left.
     cond (largeSprites r)
-    (fetch (patternAt r l y name + 16) λ right. answer (spriteBy x c left right))
+    (fetch (spritePatternAddress r l y name + 16) λ right. answer (spriteBy x c left right))
     (answer (spriteBy x c left 0))
 
 -- What a scan finds: the sprites to draw, lowest number first, and how it ended.
@@ -63,7 +63,7 @@ seen r l n k y next =
 -- The scan of the last sprites, from number n on, when k are drawn already.
 unfoldable pub scanFrom : List ℕ → ℕ → ℕ → ℕ → ℕ → Fetch Found
 scanFrom r l zero n k = answer (record { sprites = []; ended = All })
-scanFrom r l (suc left) n k = fetch (attributeAt r n 0) λ y. seen r l n k y (scanFrom r l left (suc n))
+scanFrom r l (suc left) n k = fetch (attributeAddress r n 0) λ y. seen r l n k y (scanFrom r l left (suc n))
 
 -- The scan goes up from sprite 0 to sprite 31.
 abbrev pub scanOf : List ℕ → ℕ → Fetch Found

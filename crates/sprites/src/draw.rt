@@ -4,7 +4,7 @@ ghost use Prim.Native.Nat.{_≤_};
 ghost use lib.ListN.{length, getD, take, replicate};
 ghost use Rattle.chip.specs.Lists.{tabulate};
 ghost use Rattle.planes.specs.Pixel as pixel;
-ghost use Rattle.sprites.specs.Pixels.{visible, coloursAt, coincidence};
+ghost use Rattle.sprites.specs.Pixels.{visible, spriteColours, coincidence};
 use crate::paint::paint_sprite;
 use crate::paint::take_columns;
 use crate::scan::Scan;
@@ -22,7 +22,7 @@ fn no_columns() -> Columns
 // whether two of them coincide.
 pub fn draw_sprites(line: &mut [u8], r: [u8; 8], scan: Scan) -> bool
     requires { ⌜ (length (now line) ≡ 256) × (length (scan .sprites) ≡ 4) × (scan .drawn ≤ 4) ⌝ }
-    ensures { λ _. ⌜ now (line .exit) ≡ tabulate 256 (λ x. pixel.firstOf (coloursAt r (take (scan .drawn) (scan .sprites)) (visible x)) (getD (now (line .entry)) x 0)) ⌝ }
+    ensures { λ _. ⌜ now (line .exit) ≡ tabulate 256 (λ x. pixel.firstNonZero (spriteColours r (take (scan .drawn) (scan .sprites)) (visible x)) (getD (now (line .entry)) x 0)) ⌝ }
     ensures { λ b. ⌜ b ≡ coincidence r (take (scan .drawn) (scan .sprites)) ⌝ }
 {
     let sprites = scan.sprites;

@@ -8,7 +8,7 @@ mod shape;
 mod sprite;
 
 pub use draw::draw_sprites;
-pub use due::scan_marked;
+pub use due::scan_dirty;
 pub use scan::Ended;
 pub use scan::Scan;
 pub use scan::scan_of;

@@ -8,7 +8,7 @@ ghost use Rattle.sprites.specs.Scan.{scanOf};
 ghost use Rattle.sprites.specs.Scanned.{Scanned};
 use crate::shape::covers;
 use crate::sprite::Sprite;
-use crate::sprite::attribute_at;
+use crate::sprite::attribute_address;
 use crate::sprite::sprite_of;
 
 // How a scan ended.
@@ -43,7 +43,7 @@ pub fn scan_of(r: [u8; 8], vram: &[u8], l: u8) -> Scan
         if n == 32 {
             break Ended::All;
         }
-        let y = vram[attribute_at(r, n, 0)];
+        let y = vram[attribute_address(r, n, 0)];
         if y == 208 {
             break Ended::Terminator;
         }

@@ -23,9 +23,9 @@ pub struct Sprite {
 }
 
 // Attribute k of sprite n.
-pub fn attribute_at(r: [u8; 8], n: usize, k: usize) -> usize
+pub fn attribute_address(r: [u8; 8], n: usize, k: usize) -> usize
     requires { ⌜ (masked r ≡ true) × (n < 32) × (k < 4) ⌝ }
-    ensures { λ a. ⌜ a ≡ scan.attributeAt r n k ⌝ }
+    ensures { λ a. ⌜ a ≡ scan.attributeAddress r n k ⌝ }
 {
     r[5] as usize * 128 + (4 * n + k)
 }
@@ -38,17 +38,17 @@ fn name_of(r: [u8; 8], name: u8) -> u8
 }
 
 // The pattern byte of a name on line l, for a sprite at y that covers the line.
-pub fn pattern_at(r: [u8; 8], l: u8, y: u8, name: u8) -> usize
+pub fn sprite_pattern_address(r: [u8; 8], l: u8, y: u8, name: u8) -> usize
     requires { ⌜ (masked r ≡ true) × (covers r l y ≡ true) ⌝ }
-    ensures { λ a. ⌜ a ≡ scan.patternAt r l y name ⌝ }
+    ensures { λ a. ⌜ a ≡ scan.spritePatternAddress r l y name ⌝ }
 {
     let row = scaled(is_magnified(r), row_offset(l, y) as u16);
     r[6] as usize * 2048 + (8 * name_of(r, name) as usize + row as usize)
 }
 
 // The first column, from 32 left of the screen.
-fn first_of(x: u8, c: u8) -> u16
-    ensures { λ n. ⌜ n ≡ scan.firstOf x c ⌝ }
+fn first_column(x: u8, c: u8) -> u16
+    ensures { λ n. ⌜ n ≡ scan.firstColumn x c ⌝ }
 {
     if bit(c, 7) { x as u16 } else { x as u16 + 32 }
 }
@@ -56,7 +56,7 @@ fn first_of(x: u8, c: u8) -> u16
 fn sprite_by(x: u8, c: u8, left: u8, right: u8) -> Sprite
     ensures { λ s. ⌜ s ≡ scan.spriteBy x c left right ⌝ }
 {
-    let first = first_of(x, c);
+    let first = first_column(x, c);
     Sprite {
         first: first,
         colour: c % 16,
@@ -69,10 +69,10 @@ pub fn sprite_of(r: [u8; 8], vram: &[u8], l: u8, y: u8, n: usize) -> Sprite
     requires { ⌜ (masked r ≡ true) × (length (now vram) ≡ 16384) × (covers r l y ≡ true) × (n < 32) ⌝ }
     ensures { λ s. ⌜ s ≡ value (scan.spriteOf r l n y) (now (vram .entry)) ⌝ }
 {
-    let x = vram[attribute_at(r, n, 1)];
-    let name = vram[attribute_at(r, n, 2)];
-    let c = vram[attribute_at(r, n, 3)];
-    let at = pattern_at(r, l, y, name);
+    let x = vram[attribute_address(r, n, 1)];
+    let name = vram[attribute_address(r, n, 2)];
+    let c = vram[attribute_address(r, n, 3)];
+    let at = sprite_pattern_address(r, l, y, name);
     let left = vram[at];
     if is_large(r) {
         sprite_by(x, c, left, vram[at + 16])

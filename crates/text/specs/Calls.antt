@@ -36,5 +36,5 @@ stepStarts range line out = stepFits range line out && not (same range line)
 unfoldable pub stepWritten : ℕ → ℕ → List ℕ → List ℕ → List ℕ → List ℕ
 stepWritten first last range line out = cond (stepStarts range line out) (rangeText first last range) []
 
-abbrev pub stepped : ℕ → ℕ → List ℕ → List ℕ → List ℕ → Joined
-stepped first last range line out = record { written = length (stepWritten first last range line out); starts = stepStarts range line out }
+abbrev pub stepAnswer : ℕ → ℕ → List ℕ → List ℕ → List ℕ → Joined
+stepAnswer first last range line out = record { written = length (stepWritten first last range line out); starts = stepStarts range line out }

@@ -5,7 +5,7 @@ ghost use lib.ListN.{length};
 ghost use Rattle.snapshot.specs.Lists.{putAt};
 ghost use Rattle.text.specs.Runs as join;
 ghost use Rattle.text.specs.Lines.{boundsText, rangeText};
-ghost use Rattle.text.specs.Calls.{stepped, stepWritten, endWritten};
+ghost use Rattle.text.specs.Calls.{stepAnswer, stepWritten, endWritten};
 use crate::put::put;
 use crate::put::put_decimal;
 use crate::runs::put_runs;
@@ -60,7 +60,7 @@ fn put_range(out: &mut [u8], first: u8, last: u8, range: &[u8]) -> usize
 // One line more. The range so far is lines first to last, with these colours. Where the new line differs from them, the
 // range has ended: its text is written, and the new line starts the next.
 pub fn step(first: u8, last: u8, range: &[u8], line: &[u8], out: &mut [u8]) -> Joined
-    ensures { λ r. ⌜ r ≡ stepped first last (now (range .entry)) (now (line .entry)) (now (out .entry)) ⌝ }
+    ensures { λ r. ⌜ r ≡ stepAnswer first last (now (range .entry)) (now (line .entry)) (now (out .entry)) ⌝ }
     ensures { λ _. ⌜ now (out .exit) ≡ putAt 0 (stepWritten first last (now (range .entry)) (now (line .entry)) (now (out .entry))) (now (out .entry)) ⌝ }
 {
     let none = Joined {

@@ -47,7 +47,7 @@ returns-3 c =
     let w = f .before .before in
     let d = w .before .before .before in
     let a = d .before .before .before .before .before .before .args in
-    accepted-through (a .block .now) (λ s. direct.readData s (a .vram .now)) _ (past-vram (a .vram .now) (a .block .now) (d .before .before .before .if1 .left) ∙ ok d)
+    accepted-through (a .block .now) (λ s. direct.dataRead s (a .vram .now)) _ (past-vram (a .vram .now) (a .block .now) (d .before .before .before .if1 .left) ∙ ok d)
     (rw (w .before .load .ensures) at (w .data-read .ensures))
     (f .finish .ensures .0)
     (f .finish .ensures .1)

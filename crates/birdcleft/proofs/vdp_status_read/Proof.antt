@@ -43,7 +43,7 @@ returns-2 c =
     let w = f .before .before in
     let d = w .before .before .before in
     let a = d .before .before .before .before .args in
-    accepted-through (a .block .now) (direct.readStatus) _ (ok d)
+    accepted-through (a .block .now) (direct.statusRead) _ (ok d)
     (rw (w .before .load .ensures) at (w .status-read .ensures))
     (f .finish .ensures .0)
     (f .finish .ensures .1)

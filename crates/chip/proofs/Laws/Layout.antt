@@ -32,7 +32,7 @@ module _ (c : Chip) (eight : length (c .registers) ≡ 8) where
   after : (k : ℕ) → getD (c .registers ++ rest) (8 + k) 0 ≡ getD rest k 0
   after k = ap (λ (n : ℕ). getD (c .registers ++ rest) (n + k) 0) (sym eight) ∙ getD-append-add (c .registers) rest k 0
 
-  -- Decoding what a state encodes to gives the state back, with the mark that is given.
+  -- Decoding what a state encodes to gives the state back, with the redraw mark that is given.
   pub decoded-encoded : (m : Bool) → decoded (encoded c) m ≡ withRedraw m c
   decoded-encoded m = λ i.
       record {
@@ -51,14 +51,14 @@ module _ (c : Chip) (eight : length (c .registers) ≡ 8) where
   last-byte : getD (blockOf c) 14 0 ≡ boolByte (c .redraw)
   last-byte = getD-at (encoded c) (boolByte (c .redraw)) [] 0 14 length-encoded
 
--- the mark, as a byte and back
-mark-back : (m : Bool) → eqb (boolByte m) 1 ≡ m
-mark-back true = refl
-mark-back false = refl
+-- the redraw mark, as a byte and back
+redraw-back : (m : Bool) → eqb (boolByte m) 1 ≡ m
+redraw-back true = refl
+redraw-back false = refl
 
-mark-small : (m : Bool) → leb (boolByte m) 1 ≡ true
-mark-small true = refl
-mark-small false = refl
+redraw-small : (m : Bool) → leb (boolByte m) 1 ≡ true
+redraw-small true = refl
+redraw-small false = refl
 
 -- the first 14 bytes decide
 module _ (p q : List ℕ) (fourteen : length p ≡ 14) where
@@ -85,16 +85,16 @@ flag-holds : (w : Waiting) → (eqb (flagOf w) 1 || eqb (flagOf w) 0 && eqb (byt
 flag-holds Nothing = refl
 flag-holds (First a) = refl
 
--- whether a state is well-formed does not turn on the mark
-mark-apart : (m : Bool) (c : Chip) → wellFormed (withRedraw m c) ≡ wellFormed c
+-- whether a state is well-formed does not turn on the redraw mark
+redraw-apart : (m : Bool) (c : Chip) → wellFormed (withRedraw m c) ≡ wellFormed c
 unfolding wellFormed
-mark-apart m c = refl
+redraw-apart m c = refl
 
 module _ (c : Chip) (eight : length (c .registers) ≡ 8) where
   -- Decoding a state's block gives the state back.
   pub chip-block : chipOf (blockOf c) ≡ c
   chip-block =
-      ap (decoded (blockOf c)) (ap (λ (b : ℕ). eqb b 1) (last-byte c eight) ∙ mark-back (c .redraw))
+      ap (decoded (blockOf c)) (ap (λ (b : ℕ). eqb b 1) (last-byte c eight) ∙ redraw-back (c .redraw))
       ∙ decoded-front (encoded c) (boolByte (c .redraw) ∷ []) (length-encoded c eight) (c .redraw)
       ∙ decoded-encoded c eight (c .redraw)
 
@@ -103,11 +103,11 @@ module _ (c : Chip) (eight : length (c .registers) ≡ 8) where
   encoded-holds =
       ap₂ _&&_
       (ap₂ (λ (f a : ℕ). eqb f 1 || eqb f 0 && eqb a 0) (after c eight 3) (after c eight 4) ∙ flag-holds (c .waiting))
-      (ap wellFormed (decoded-encoded c eight true) ∙ mark-apart true c)
+      (ap wellFormed (decoded-encoded c eight true) ∙ redraw-apart true c)
 
   pub block-holds : holdsBlock (blockOf c) ≡ wellFormed c
   block-holds =
-      ap₂ _&&_ (ap (λ (b : ℕ). leb b 1) (last-byte c eight) ∙ mark-small (c .redraw))
+      ap₂ _&&_ (ap (λ (b : ℕ). leb b 1) (last-byte c eight) ∙ redraw-small (c .redraw))
       (holds-front (encoded c) (boolByte (c .redraw) ∷ []) (length-encoded c eight) ∙ encoded-holds)
 
   pub length-block : length (blockOf c) ≡ 15
@@ -136,8 +136,8 @@ module _ (b : List ℕ) (bytes : Bytes b) (holds : holdsState b ≡ true) where
       (λ i. take-tabulate 8 b eight i ++ (low i ∷ high i ∷ at 10 ∷ flags .0 i ∷ flags .1 i ∷ at 13 ∷ []))
       ∙ sym (take-tabulate 14 b long)
 
-mark-byte : (x : ℕ) → leb x 1 ≡ true → boolByte (eqb x 1) ≡ x
-mark-byte x h = by (eqb x 1) refl
+redraw-byte : (x : ℕ) → leb x 1 ≡ true → boolByte (eqb x 1) ≡ x
+redraw-byte x h = by (eqb x 1) refl
   where
     by : (y : Bool) → eqb x 1 ≡ y → boolByte y ≡ x
     by true e = sym (eqb-true x 1 e)
@@ -148,6 +148,6 @@ pub block-chip : (b : List ℕ) → Bytes b → length b ≡ 15 → holdsBlock b
 block-chip b bytes fifteen holds =
     ap₂ (λ (l : List ℕ) (x : ℕ). l ++ (x ∷ []))
     (encoded-decoded b bytes (and-right (leb (getD b 14 0) 1) (holdsState b) holds) (eqb (getD b 14 0) 1) (omega arith))
-    (mark-byte (getD b 14 0) (and-left (leb (getD b 14 0) 1) (holdsState b) holds))
+    (redraw-byte (getD b 14 0) (and-left (leb (getD b 14 0) 1) (holdsState b) holds))
     ∙ sym (take-suc b 14 0 (omega arith))
     ∙ take-all 15 b (omega arith)

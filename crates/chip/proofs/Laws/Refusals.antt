@@ -5,7 +5,7 @@ use mathlib.Core.Bool.{Bool, true, false, cond, not, _&&_, _||_}
 use mathlib.Core.List.{List, [], _∷_}
 use borrow.Author.Tests.{eqb-false, eq-eqb}
 use lib.Dec.{eqb, lit≤}
-use Rattle.chip.specs.Refusals.{numberOf, isAccepted, order, Test, gives, firstOf, refusalOf, ifAccepted}
+use Rattle.chip.specs.Refusals.{numberOf, isAccepted, order, Test, gives, firstGiven, refusalOf, ifAccepted}
 use Rattle.chip.proofs.Laws.Ranges.{and-false}
 use Rattle.chip.specs.declared.refusal.Refusal.{Refusal}
 use Rattle.chip.specs.declared.refusal.Refusal.the-variants.{Accepted, VramLength, SliceLength, IllFormed, LineNumber, SnapshotLength, Trailer, Checksum}
@@ -67,9 +67,9 @@ none-given (t ∷ ts) h r =
 pub all-accepted : (ts : List Test) → AllPass ts → refusalOf ts ≡ Accepted
 all-accepted ts h = by order
   where
-    by : (rs : List Refusal) → firstOf rs ts ≡ Accepted
+    by : (rs : List Refusal) → firstGiven rs ts ≡ Accepted
     by [] = refl
-    by (r ∷ rs) = ap (λ (b : Bool). cond b r (firstOf rs ts)) (none-given ts h r) ∙ by rs
+    by (r ∷ rs) = ap (λ (b : Bool). cond b r (firstGiven rs ts)) (none-given ts h r) ∙ by rs
 
 -- .. and only there.
 peel : (g : Bool) (r rest : Refusal) → isAccepted r ≡ false → isAccepted (cond g r rest) ≡ true → (g ≡ false) × (isAccepted rest ≡ true)

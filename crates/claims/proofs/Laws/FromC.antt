@@ -30,7 +30,7 @@ use Rattle.snapshot.proofs.Laws.Parts.{length-state}
 use Rattle.chip.specs.declared.refusal.Answer.{Answer}
 use Rattle.birdcleft.specs.Calls.{FromC}
 use Rattle.claims.specs.Bench.{Bench}
-use Rattle.claims.specs.Call.{Op, powerUp, controlWrite, dataWrite, dataRead as readData, statusRead as readStatus, endOfDisplay, interruptLine, reset, drawLine, fullDraw, refresh, readSnapshot, writeSnapshot, own, Call}
+use Rattle.claims.specs.Call.{Op, powerUp, controlWrite, dataWrite, dataRead, statusRead, endOfDisplay, interruptLine, reset, drawLine, fullDraw, refresh, readSnapshot, writeSnapshot, own, Call}
 use Rattle.claims.specs.Step.{back, reads, lentBench, directly, throughC, stepDirect, stepFromC}
 use Rattle.claims.proofs.Laws.Blocks.{Same, decodes, block-as-state, block-dropped, through-same, list-same}
 
@@ -150,11 +150,11 @@ module _ (call : Call) (b : Bench) where
         (list-same fits _ write-refusal (λ s. chip.dataWriteVram s vram map x) _ _ refl)
         (list-same fits _ write-refusal (λ s. chip.dataWriteMap s vram map) _ _ refl)
         refl refl refl
-    by-op readData =
-        same-step readData (through-same fits _ vram-refusal _ _ _ refl (λ ok. eight) (fits .buffer))
+    by-op dataRead =
+        same-step dataRead (through-same fits _ vram-refusal _ _ _ refl (λ ok. eight) (fits .buffer))
         refl refl refl refl refl
-    by-op readStatus =
-        same-step readStatus (through-same fits _ state-refusal _ _ _ refl (λ ok. eight) (fits .status))
+    by-op statusRead =
+        same-step statusRead (through-same fits _ state-refusal _ _ _ refl (λ ok. eight) (fits .status))
         refl refl refl refl refl
     by-op endOfDisplay =
         same-step endOfDisplay (through-same fits _ state-refusal _ _ _ refl (λ ok. eight) (lit< tt)) refl refl refl refl refl

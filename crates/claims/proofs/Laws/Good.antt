@@ -6,7 +6,7 @@ use mathlib.Core.Bool.{Bool, true, false}
 use mathlib.Core.List.{List}
 use lib.ListN.{length, length-set, length-replicate}
 use Rattle.chip.specs.State.{Bytes}
-use Rattle.chip.specs.Map.{mapSize, marked}
+use Rattle.chip.specs.Map.{mapSize, setDirty}
 use Rattle.chip.specs.Ports.{dataWritten, stored}
 use Rattle.chip.specs.declared.state.Chip.{Chip}
 use Rattle.chip.proofs.Laws.Lists.{length-tabulate}
@@ -18,7 +18,7 @@ use Rattle.frame.specs.Lines.{lineCount}
 use Rattle.frame.specs.Draw.{frameOf, notesOf, clearMap, drawnState}
 use Rattle.frame.specs.Due.{newFrame, newNotes}
 use Rattle.frame.proofs.Laws.Lines.{length-end}
-use Rattle.frame.proofs.Laws.Clean.{Clean, clean-marked, clean-drawn, clean-written, refreshed-frame, refreshed-notes}
+use Rattle.frame.proofs.Laws.Clean.{Clean, clean-while-redraw, clean-drawn, clean-written, refreshed-frame, refreshed-notes}
 use Rattle.claims.specs.Bench.{Bench, Lengths}
 use Rattle.claims.proofs.Laws.Registers.{bytes-set}
 use Rattle.claims.proofs.Laws.States.{Ready, ready-written, ready-drawn}
@@ -35,19 +35,19 @@ pub record Good (b : Bench) : Type 0 where
   pub bytes : Bytes (b .vram)
   pub clean : Clean (b .chip .redraw) (b .chip .registers) (b .vram) (b .map) (b .frame) (b .notes)
 
-marked-clean : {m : Bool} → m ≡ true → (r vram map frame notes : List ℕ) → Clean m r vram map frame notes
-marked-clean e r vram map frame notes = rw e (clean-marked r vram map frame notes)
+clean-by-redraw : {m : Bool} → m ≡ true → (r vram map frame notes : List ℕ) → Clean m r vram map frame notes
+clean-by-redraw e r vram map frame notes = rw e (clean-while-redraw r vram map frame notes)
 
 same-clean : {m k : Bool} {r s vram map frame notes : List ℕ} → k ≡ m → s ≡ r → Clean m r vram map frame notes → Clean k s vram map frame notes
 same-clean e f clean = rw (e, f) clean
 
--- The mark is set, whatever becomes of registers and VRAM.
-pub good-marked : (d : Chip) (vram map frame notes : List ℕ) → d .redraw ≡ true → Lengths (bench d vram map frame notes) → Ready d → Bytes vram → Good (bench d vram map frame notes)
-good-marked d vram map frame notes m lengths ready bytes =
-    record { lengths = lengths; ready = ready; bytes = bytes; clean = marked-clean m (d .registers) vram map frame notes }
+-- The redraw mark is set, whatever becomes of registers and VRAM.
+pub good-while-redraw : (d : Chip) (vram map frame notes : List ℕ) → d .redraw ≡ true → Lengths (bench d vram map frame notes) → Ready d → Bytes vram → Good (bench d vram map frame notes)
+good-while-redraw d vram map frame notes m lengths ready bytes =
+    record { lengths = lengths; ready = ready; bytes = bytes; clean = clean-by-redraw m (d .registers) vram map frame notes }
 
 module _ {b : Bench} (good : Good b) where
-  -- Nothing that a line is drawn by changes, or the mark is set.
+  -- Nothing that a line is drawn by changes, or the redraw mark is set.
   pub good-turned : (d : Chip) → Ready d → Turned (b .chip) d → Good (bench d (b .vram) (b .map) (b .frame) (b .notes))
   good-turned d ready t =
       record {
@@ -59,10 +59,10 @@ module _ {b : Bench} (good : Good b) where
     where
       by : Turned (b .chip) d → Clean (d .redraw) (d .registers) (b .vram) (b .map) (b .frame) (b .notes)
       by (quiet r m) = same-clean m r (good .clean)
-      by (marks m) = marked-clean m (d .registers) (b .vram) (b .map) (b .frame) (b .notes)
+      by (marks m) = clean-by-redraw m (d .registers) (b .vram) (b .map) (b .frame) (b .notes)
 
-  -- One byte is written, and marked.
-  pub good-written : (x : ℕ) → x < 256 → Good (bench (dataWritten x (b .chip)) (stored x (b .chip) (b .vram)) (marked (b .map) (b .chip .address)) (b .frame) (b .notes))
+  -- One byte is written, and its dirty bit set.
+  pub good-written : (x : ℕ) → x < 256 → Good (bench (dataWritten x (b .chip)) (stored x (b .chip) (b .vram)) (setDirty (b .map) (b .chip .address)) (b .frame) (b .notes))
   good-written x h =
       let a : ℕ = b .chip .address in
       let within : a ≤ 16383 = address-in (b .chip) (good .ready .well-formed) in

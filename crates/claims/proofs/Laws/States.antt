@@ -11,7 +11,7 @@ use lib.Seq.{length-take-le}
 use borrow.Author.Tests.{ltb-true, le-leb}
 use Rattle.chip.specs.Bits.{bit, setBit}
 use Rattle.chip.specs.State.{Bytes, Fits, byteOf, waitingOf, kept, masked, wellFormed, powerUpState, withRegisters, withAddress, withBuffer, withWaiting, withStatus, withRedraw}
-use Rattle.chip.specs.Ports.{stepped, prefetched, registerWritten, controlBy, control, dataWritten, dataRead, statusRead, displayEnded, wasReset}
+use Rattle.chip.specs.Ports.{nextAddress, prefetched, registerWritten, controlBy, control, dataWritten, afterDataRead, afterStatusRead, displayEnded, wasReset}
 use Rattle.chip.specs.Layout.{decoded, holdsState}
 use Rattle.chip.specs.declared.state.Chip.{Chip}
 use Rattle.chip.specs.declared.state.Waiting.{Waiting}
@@ -85,7 +85,7 @@ module _ {c : Chip} (ready : Ready c) where
         well-formed = well (withRedraw m c) obeyed within;
       }
 
-stepped-in : (a : ℕ) → stepped a ≤ 16383
+stepped-in : (a : ℕ) → nextAddress a ≤ 16383
 stepped-in a = omega arith
 
 pub zeros : (n i : ℕ) → getD (replicate n 0) i 0 < 256
@@ -114,15 +114,15 @@ module _ {c : Chip} (ready : Ready c) where
 
   module _ (vram : List ℕ) (bytes : Bytes vram) where
     pub ready-prefetched : Ready (prefetched vram c)
-    ready-prefetched = with-address (with-buffer ready (getD vram (c .address) 0) (bytes (c .address))) (stepped (c .address)) (stepped-in (c .address))
+    ready-prefetched = with-address (with-buffer ready (getD vram (c .address) 0) (bytes (c .address))) (nextAddress (c .address)) (stepped-in (c .address))
 
-    pub ready-read : Ready (dataRead vram c)
+    pub ready-read : Ready (afterDataRead vram c)
     ready-read = with-waiting ready-prefetched Nothing (lit< tt)
 
   pub ready-written : (x : ℕ) → x < 256 → Ready (dataWritten x c)
-  ready-written x h = with-waiting (with-address (with-buffer ready x h) (stepped (c .address)) (stepped-in (c .address))) Nothing (lit< tt)
+  ready-written x h = with-waiting (with-address (with-buffer ready x h) (nextAddress (c .address)) (stepped-in (c .address))) Nothing (lit< tt)
 
-  pub ready-status-read : Ready (statusRead c)
+  pub ready-status-read : Ready (afterStatusRead c)
   ready-status-read = with-waiting (with-status ready (c .status % 32) (omega arith)) Nothing (lit< tt)
 
   pub ready-ended : Ready (displayEnded c)

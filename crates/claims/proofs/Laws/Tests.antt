@@ -3,7 +3,7 @@ use mathlib.Core.Path.{_≡_, refl, ap, ap₂, _∙_}
 use mathlib.Core.Bool.{Bool, cond, not, _&&_, _||_}
 use mathlib.Core.List.{List, [], _∷_, _++_}
 use lib.Dec.{eqb}
-use Rattle.chip.specs.Refusals.{numberOf, order, Test, gives, firstOf, refusalOf}
+use Rattle.chip.specs.Refusals.{numberOf, order, Test, gives, firstGiven, refusalOf}
 use Rattle.chip.specs.declared.refusal.Refusal.{Refusal}
 use Rattle.chip.proofs.Laws.Ranges.{and-false}
 use Rattle.chip.proofs.Laws.Refusals.{AllPass}
@@ -15,7 +15,7 @@ gives-dropped [] (u ∷ us) ws p r =
     ap (λ (b : Bool). same && not b || gives (us ++ ws) r) (p .0) ∙ ap (λ (b : Bool). b || gives (us ++ ws) r) (and-false same) ∙ gives-dropped [] us ws (p .1) r
 gives-dropped (t ∷ ts) us ws p r = ap (λ (b : Bool). eqb (numberOf (t .refusal)) (numberOf r) && not (t .passes) || b) (gives-dropped ts us ws p r)
 
-first-same : (rs : List Refusal) (ts us : List Test) → ((r : Refusal) → gives ts r ≡ gives us r) → firstOf rs ts ≡ firstOf rs us
+first-same : (rs : List Refusal) (ts us : List Test) → ((r : Refusal) → gives ts r ≡ gives us r) → firstGiven rs ts ≡ firstGiven rs us
 first-same [] ts us h = refl
 first-same (r ∷ rs) ts us h = ap₂ (λ (b : Bool) (x : Refusal). cond b r x) (h r) (first-same rs ts us h)
 

@@ -1,4 +1,4 @@
--- What an operation may do to what lines are drawn by: it leaves registers and redraw mark alone, or it sets the mark.
+-- What an operation may do to what lines are drawn by: it leaves registers and redraw mark alone, or it sets the redraw mark.
 use Prim.Native.Nat.{ℕ, _+_, _*_, _%_}
 use mathlib.Core.Path.{_≡_, refl, ap, _∙_}
 use mathlib.Core.Bool.{Bool, true, false, cond, not, _||_}
@@ -22,7 +22,7 @@ either-turned : {c d e : Chip} (b : Bool) → Turned c d → Turned c e → Turn
 either-turned true p q = p
 either-turned false p q = q
 
--- A register that keeps its value is not altered; one that is altered sets the mark.
+-- A register that keeps its value is not altered; one that is altered sets the redraw mark.
 register-turned : (n a : ℕ) (c : Chip) → Turned c (registerWritten n a c)
 register-turned n a c = by (eqb (kept n a) (register n (c .registers))) refl
   where

@@ -15,6 +15,6 @@ either-long : (b : Bool) (x y : List ℕ) → length x ≡ 256 → length y ≡ 
 either-long true x y ex ey = ex
 either-long false x y ex ey = ey
 
-pub wide-line : (mark : Bool) (r vram map frame : List ℕ) → length frame ≡ 49152 → (l : ℕ) → l < 192 → length (newLine mark r vram map frame l) ≡ 256
-wide-line mark r vram map frame e l h =
-    either-long (due mark r vram map l) (colours r vram l) (lineAt frame l) (length-tabulate 256 _) (length-line frame l (omega arith))
+pub wide-line : (redraw : Bool) (r vram map frame : List ℕ) → length frame ≡ 49152 → (l : ℕ) → l < 192 → length (newLine redraw r vram map frame l) ≡ 256
+wide-line redraw r vram map frame e l h =
+    either-long (due redraw r vram map l) (colours r vram l) (lineAt frame l) (length-tabulate 256 _) (length-line frame l (omega arith))

@@ -14,7 +14,7 @@ use mir.Val.{boolByte}
 use Rattle.chip.specs.Bits.{bit}
 use Rattle.chip.proofs.Laws.Lists.{tabulated}
 use Rattle.chip.proofs.Laws.Refusals.{differ}
-use Rattle.fetches.specs.Fetch.{fetched, anyMarked}
+use Rattle.fetches.specs.Fetch.{fetched, anyDirty}
 use Rattle.scanline.specs.Line.{lineOf}
 use Rattle.scanline.specs.Calls.{noteAt, colours}
 use Rattle.frame.specs.Lines.{endToEnd, lineAt, countBelow}
@@ -25,7 +25,7 @@ use Rattle.frame.proofs.Laws.Lines.{end-same}
 pub joined-none : (a b : ℕ) → bitOr a b ≡ 0 → (a ≡ 0) × (b ≡ 0)
 joined-none a b e = (omega (arith, or-add-and a b, and-le-l a b, and-le-r a b), omega (arith, or-add-and a b, and-le-l a b, and-le-r a b))
 
-pub clear-both : (mark clear : Bool) → (not mark && clear) ≡ true → (mark ≡ false) × (clear ≡ true)
+pub clear-both : (redraw clear : Bool) → (not redraw && clear) ≡ true → (redraw ≡ false) × (clear ≡ true)
 clear-both true clear e = absurd (differ (sym e))
 clear-both false clear e = (refl, e)
 
@@ -40,14 +40,14 @@ module _ (map : List ℕ) (clear : (k : ℕ) → k < length map → getD map k 0
       by true e = clear k (ltb-true k (length map) e)
       by false e = List·getD-eq-default map 0 (ltb-false k (length map) e)
 
-  none-marked : (l : List ℕ) → anyMarked map l ≡ false
-  none-marked [] = refl
-  none-marked (a ∷ l) = ap₂ (λ (p q : Bool). p || q) (ap (bit (a % 8)) (everywhere (a / 8)) ∙ no-bit (a % 8)) (none-marked l)
+  none-dirty : (l : List ℕ) → anyDirty map l ≡ false
+  none-dirty [] = refl
+  none-dirty (a ∷ l) = ap₂ (λ (p q : Bool). p || q) (ap (bit (a % 8)) (everywhere (a / 8)) ∙ no-bit (a % 8)) (none-dirty l)
 
   module _ (r vram : List ℕ) where
     none-due : (l : ℕ) → due false r vram map l ≡ false
     unfolding due
-    none-due l = none-marked (fetched (lineOf r l) vram)
+    none-due l = none-dirty (fetched (lineOf r l) vram)
 
     -- a frame's lines, end to end
     front-lines : (frame : List ℕ) (n : ℕ) → endToEnd n (lineAt frame) ≡ take (256 * n) frame

@@ -11,13 +11,13 @@ use Rattle.chip.specs.State.{wellFormed}
 use Rattle.chip.specs.declared.state.Chip.{Chip}
 use Rattle.scanline.specs.Calls.{colours, drawLineLine}
 use Rattle.text.proofs.Laws.Pieces.{line-drawn}
-use Rattle.picture.specs.Palette.{pixelOf}
+use Rattle.picture.specs.Palette.{rgbOf}
 use Rattle.picture.specs.Picture.{painted}
 
-painted-one-more : (l : List ℕ) (c : ℕ) → painted (l ++ (c ∷ [])) ≡ painted l ++ pixelOf c
+painted-one-more : (l : List ℕ) (c : ℕ) → painted (l ++ (c ∷ [])) ≡ painted l ++ rgbOf c
 unfolding painted
-painted-one-more [] c = append-nil (pixelOf c)
-painted-one-more (d ∷ l) c = ap (λ (t : List ℕ). pixelOf d ++ t) (painted-one-more l c) ∙ sym (append-assoc (pixelOf d) (painted l) (pixelOf c))
+painted-one-more [] c = append-nil (rgbOf c)
+painted-one-more (d ∷ l) c = ap (λ (t : List ℕ). rgbOf d ++ t) (painted-one-more l c) ∙ sym (append-assoc (rgbOf d) (painted l) (rgbOf c))
 
 pub length-painted : (l : List ℕ) → length (painted l) ≡ 3 * length l
 unfolding painted
@@ -47,7 +47,7 @@ module _ {colours out₀ : List ℕ} (room : length out₀ ≡ 3 * length colour
       let back = length-drop (3 * x) out₀ in
       omega arith
 
-  pub painting-more : {out pixel : List ℕ} {x : ℕ} → x < length colours → pixel ≡ pixelOf (getD colours x 0) → Painting colours out₀ out x → Painting colours out₀ (set (set (set out (3 * x) (getD pixel 0 0)) (3 * x + 1) (getD pixel 1 0)) (3 * x + 2) (getD pixel 2 0)) (x + 1)
+  pub painting-more : {out pixel : List ℕ} {x : ℕ} → x < length colours → pixel ≡ rgbOf (getD colours x 0) → Painting colours out₀ out x → Painting colours out₀ (set (set (set out (3 * x) (getD pixel 0 0)) (3 * x + 1) (getD pixel 1 0)) (3 * x + 2) (getD pixel 2 0)) (x + 1)
   painting-more {out} {pixel} {x} h e g =
       let c = getD colours x 0 in
       let p = painted (take x colours) in
@@ -58,13 +58,13 @@ module _ {colours out₀ : List ℕ} (room : length out₀ ≡ 3 * length colour
       let on : 3 * x + 3 ≡ 3 * (x + 1) = omega arith in
       let next : drop (3 * x + 3) out ≡ drop (3 * (x + 1)) out₀ =
       sym (drop-drop 3 (3 * x) out) ∙ ap (drop 3) rest ∙ drop-drop 3 (3 * x) out₀ ∙ ap (λ (k : ℕ). drop k out₀) on in
-      let more : painted (take (x + 1) colours) ≡ p ++ pixelOf c =
+      let more : painted (take (x + 1) colours) ≡ p ++ rgbOf c =
       ap painted (ap (λ (k : ℕ). take k colours) (add-one x) ∙ take-suc colours x 0 h) ∙ painted-one-more (take x colours) c in
       record {
         so-far =
             ap (λ (q : List ℕ). set (set (set out (3 * x) (getD q 0 0)) (3 * x + 1) (getD q 1 0)) (3 * x + 2) (getD q 2 0)) e
             ∙ three out (3 * x) _ _ _ (omega arith)
-            ∙ ap₂ (λ (s t : List ℕ). s ++ pixelOf c ++ t) kept next
+            ∙ ap₂ (λ (s t : List ℕ). s ++ rgbOf c ++ t) kept next
             ∙ ap (λ (s : List ℕ). s ++ drop (3 * (x + 1)) out₀) (sym more);
       }
 

@@ -11,7 +11,7 @@ use Rattle.chip.specs.Tables.{names, patterns, colours, size}
 use Rattle.chip.proofs.Laws.Tables.{inside}
 use Rattle.chip.specs.declared.mode.Mode.{Mode}
 use Rattle.chip.specs.declared.mode.Mode.the-variants.{Blank, GraphicsI, GraphicsII, Multicolor, Text}
-use Rattle.planes.specs.Cells.{cellsIn, cellWidth, margin, nameAt, patternAt, coloursAt}
+use Rattle.planes.specs.Cells.{cellsIn, cellWidth, margin, nameAddress, patternAddress, colourAddress}
 
 -- a cell's name is one of its name table's
 pub name-within : (m : Mode) (l i : ℕ) → l < 192 → i < cellsIn m → l / 8 * cellsIn m + i < size m names
@@ -30,20 +30,20 @@ names-few Multicolor = omega arith
 names-few Text = omega arith
 
 -- Every address of a cell is below 16,384, in every mode.
-pub name-inside : (m : Mode) (r : List ℕ) → masked r ≡ true → (l : ℕ) → l < 192 → (i : ℕ) → i < cellsIn m → nameAt m r l i < vramSize
-unfolding nameAt
+pub name-inside : (m : Mode) (r : List ℕ) → masked r ≡ true → (l : ℕ) → l < 192 → (i : ℕ) → i < cellsIn m → nameAddress m r l i < vramSize
+unfolding nameAddress
 name-inside m r ok l hl i hi = inside m names r ok (l / 8 * cellsIn m + i) (name-within m l i hl hi)
 
-pub pattern-inside : (m : Mode) (r : List ℕ) → masked r ≡ true → (l : ℕ) → l < 192 → (name : ℕ) → name < 256 → patternAt m r l name < vramSize
-unfolding patternAt
+pub pattern-inside : (m : Mode) (r : List ℕ) → masked r ≡ true → (l : ℕ) → l < 192 → (name : ℕ) → name < 256 → patternAddress m r l name < vramSize
+unfolding patternAddress
 pattern-inside Blank r ok l hl n hn = lit< tt
 pattern-inside GraphicsI r ok l hl n hn = inside GraphicsI patterns r ok _ (omega arith)
 pattern-inside GraphicsII r ok l hl n hn = inside GraphicsII patterns r ok _ (omega arith)
 pattern-inside Multicolor r ok l hl n hn = inside Multicolor patterns r ok _ (omega arith)
 pattern-inside Text r ok l hl n hn = inside Text patterns r ok _ (omega arith)
 
-pub colours-inside : (m : Mode) (r : List ℕ) → masked r ≡ true → (l : ℕ) → l < 192 → (name : ℕ) → name < 256 → coloursAt m r l name < vramSize
-unfolding coloursAt
+pub colours-inside : (m : Mode) (r : List ℕ) → masked r ≡ true → (l : ℕ) → l < 192 → (name : ℕ) → name < 256 → colourAddress m r l name < vramSize
+unfolding colourAddress
 colours-inside Blank r ok l hl n hn = lit< tt
 colours-inside GraphicsI r ok l hl n hn = inside GraphicsI colours r ok _ (omega arith)
 colours-inside GraphicsII r ok l hl n hn = inside GraphicsII colours r ok _ (omega arith)

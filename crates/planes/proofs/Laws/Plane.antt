@@ -11,7 +11,7 @@ use Rattle.chip.specs.declared.mode.Mode.{Mode}
 use Rattle.chip.proofs.Laws.Ranges.{and-false}
 use Rattle.planes.specs.Cells.{cellsIn, cellWidth, margin, cellOf, planeOf}
 use Rattle.planes.specs.Plane.{pick, noCell, planeColour}
-use Rattle.planes.specs.Pixel.{over, rear, pixelOf}
+use Rattle.planes.specs.Pixel.{over, behindPlanes, pixelOf}
 use Rattle.planes.specs.Painted.{Painted}
 use Rattle.chip.specs.Lists.{tabulate}
 use Rattle.fetches.specs.Fetch.{value}
@@ -43,24 +43,24 @@ module _ (m : Mode) (r : List ℕ) (l : ℕ) (vram : List ℕ) where
   colour x = pixelOf r [] (planeColour m (value (planeOf m r l) vram) x)
 
   -- before the first cell
-  pub shown-none : {line : List ℕ} → line ≡ replicate 256 (rear r) → Shown line colour (rear r) (margin m)
+  pub shown-none : {line : List ℕ} → line ≡ replicate 256 (behindPlanes r) → Shown line colour (behindPlanes r) (margin m)
   shown-none e =
       record {
-        long = ap length e ∙ length-replicate 256 (rear r);
-        done = λ x h. rw (e, left-of-cells m (value (planeOf m r l) vram) x h) (getD-replicate 256 x (rear r) 0 (omega (arith, columns-within m)));
-        rest = λ x h below. rw e (getD-replicate 256 x (rear r) 0 below);
+        long = ap length e ∙ length-replicate 256 (behindPlanes r);
+        done = λ x h. rw (e, left-of-cells m (value (planeOf m r l) vram) x h) (getD-replicate 256 x (behindPlanes r) 0 (omega (arith, columns-within m)));
+        rest = λ x h below. rw e (getD-replicate 256 x (behindPlanes r) 0 below);
       }
 
   -- one cell more
-  pub shown-cell : {line new : List ℕ} {at : ℕ} (i : ℕ) → i < cellsIn m → at ≡ margin m + i * cellWidth m → Shown line colour (rear r) at → Painted new line at (cellWidth m) (λ k. over (pick (value (cellOf m r l i) vram) k) (rear r)) → Shown new colour (rear r) (at + cellWidth m)
+  pub shown-cell : {line new : List ℕ} {at : ℕ} (i : ℕ) → i < cellsIn m → at ≡ margin m + i * cellWidth m → Shown line colour (behindPlanes r) at → Painted new line at (cellWidth m) (λ k. over (pick (value (cellOf m r l i) vram) k) (behindPlanes r)) → Shown new colour (behindPlanes r) (at + cellWidth m)
   shown-cell {line} {new} {at} i h e s p = shown-more same s p
     where
-      same : (k : ℕ) → k < cellWidth m → over (pick (value (cellOf m r l i) vram) k) (rear r) ≡ colour (at + k)
+      same : (k : ℕ) → k < cellWidth m → over (pick (value (cellOf m r l i) vram) k) (behindPlanes r) ≡ colour (at + k)
       same k hk =
           let x : at + k ≡ margin m + (i * cellWidth m + k) = omega arith in
           let cell : getD (value (planeOf m r l) vram) i noCell ≡ value (cellOf m r l i) vram = getD-each (cellOf m r l) vram 0 (cellsIn m) i noCell h ∙ ap (λ (j : ℕ). value (cellOf m r l j) vram) (zero-add i) in
           rw (x, in-cell m (value (planeOf m r l) vram) i k h hk, cell)
 
   -- all cells
-  pub shown-plane : {line : List ℕ} → Shown line colour (rear r) (margin m + cellsIn m * cellWidth m) → line ≡ tabulate 256 colour
-  shown-plane s = shown-all {colour = colour} {behind = rear r} (λ x h. rw (right-of-cells m (value (planeOf m r l) vram) x h)) s
+  pub shown-plane : {line : List ℕ} → Shown line colour (behindPlanes r) (margin m + cellsIn m * cellWidth m) → line ≡ tabulate 256 colour
+  shown-plane s = shown-all {colour = colour} {behind = behindPlanes r} (λ x h. rw (right-of-cells m (value (planeOf m r l) vram) x h)) s

@@ -9,13 +9,13 @@ use Rattle.chip.specs.Modes.{modeOf}
 use Rattle.chip.specs.declared.mode.Mode.{Mode}
 use Rattle.chip.proofs.Laws.Lists.{tabulated, tabulate-same, getD-tabulate, length-tabulate}
 use Rattle.chip.proofs.Laws.Ranges.{none-holds}
-use Rattle.fetches.specs.Fetch.{answer, value, fetched, followed, anyMarked}
-use Rattle.fetches.proofs.Laws.{value-followed, fetched-followed, marked-append}
+use Rattle.fetches.specs.Fetch.{answer, value, fetched, followed, anyDirty}
+use Rattle.fetches.proofs.Laws.{value-followed, fetched-followed, dirty-append}
 use Rattle.planes.specs.Cells.{planeOf}
 use Rattle.planes.specs.Plane.{planeColour}
-use Rattle.planes.specs.Pixel.{firstOf, pixelOf}
+use Rattle.planes.specs.Pixel.{firstNonZero, pixelOf}
 use Rattle.sprites.specs.Scan.{Found, fifthOf}
-use Rattle.sprites.specs.Pixels.{visible, coloursAt, coincidence}
+use Rattle.sprites.specs.Pixels.{visible, spriteColours, coincidence}
 use Rattle.scanline.specs.Line.{Row, noSprites, spritesOf, lineIn, lineOf, colourAt}
 use Rattle.scanline.specs.Notes.{noteBy, noteOf}
 use Rattle.scanline.specs.Calls.{noteAt, colours}
@@ -43,9 +43,9 @@ module _ (r : List ℕ) (l : ℕ) (vram : List ℕ) where
   row-is = value-line m r l vram
 
   -- the plane's bytes or the sprites'
-  pub line-fetches : (map : List ℕ) → anyMarked map (fetched (lineOf r l) vram) ≡ (anyMarked map (fetched (planeOf m r l) vram) || anyMarked map (fetched (spritesOf m r l) vram))
+  pub line-fetches : (map : List ℕ) → anyDirty map (fetched (lineOf r l) vram) ≡ (anyDirty map (fetched (planeOf m r l) vram) || anyDirty map (fetched (spritesOf m r l) vram))
   unfolding lineOf
-  line-fetches map = ap (anyMarked map) (fetched-line m r l vram) ∙ marked-append map (fetched (planeOf m r l) vram) (fetched (spritesOf m r l) vram)
+  line-fetches map = ap (anyDirty map) (fetched-line m r l vram) ∙ dirty-append map (fetched (planeOf m r l) vram) (fetched (spritesOf m r l) vram)
 
   abbrev pub planeLine : List ℕ
   planeLine = tabulate 256 (λ x. pixelOf r [] (planeColour m (value (planeOf m r l) vram) x))
@@ -56,14 +56,14 @@ module _ (r : List ℕ) (l : ℕ) (vram : List ℕ) where
     note-is = rw (row-is, found)
 
     -- the sprites over the plane
-    pub sprites-over : {one two : List ℕ} → one ≡ planeLine → two ≡ tabulate 256 (λ x. firstOf (coloursAt r (f .sprites) (visible x)) (getD one x 0)) → two ≡ colours r vram l
+    pub sprites-over : {one two : List ℕ} → one ≡ planeLine → two ≡ tabulate 256 (λ x. firstNonZero (spriteColours r (f .sprites) (visible x)) (getD one x 0)) → two ≡ colours r vram l
     unfolding colourAt
     sprites-over {one} {two} e t =
         t
         ∙ tabulate-same 256
         (λ x h.
-        ap (firstOf (coloursAt r (f .sprites) (visible x))) (ap (λ (s : List ℕ). getD s x 0) e ∙ getD-tabulate 256 _ x h)
-        ∙ sym (ap (λ (row : Row). pixelOf r (coloursAt r (row .found .sprites) (visible x)) (planeColour m (row .cells) x)) row-is ∙ ap (λ (g : Found). pixelOf r (coloursAt r (g .sprites) (visible x)) (planeColour m (value (planeOf m r l) vram) x)) found))
+        ap (firstNonZero (spriteColours r (f .sprites) (visible x))) (ap (λ (s : List ℕ). getD s x 0) e ∙ getD-tabulate 256 _ x h)
+        ∙ sym (ap (λ (row : Row). pixelOf r (spriteColours r (row .found .sprites) (visible x)) (planeColour m (row .cells) x)) row-is ∙ ap (λ (g : Found). pixelOf r (spriteColours r (g .sprites) (visible x)) (planeColour m (value (planeOf m r l) vram) x)) found))
 
   -- a line without sprites
   module _ (none : value (spritesOf m r l) vram ≡ noSprites) where

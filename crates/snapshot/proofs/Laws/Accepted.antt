@@ -50,7 +50,7 @@ module _ (file : List ℕ) (bytes : Bytes file) {old : List ℕ} (r : Readable o
       encoded-decoded (stateBytes file) (bytes-part (trailerAt file - 14) 14 file bytes) (r .holds) true (omega arith)
       ∙ take-all 14 (stateBytes file) (omega arith)
 
-  -- the mark and the distances are the trailer's first six bytes
+  -- the signature and the distances are the trailer's first six bytes
   pointers-kept : take 6 (drop 16398 file) ≡ pointers
   unfolding pointsBack tabulate
   pointers-kept =

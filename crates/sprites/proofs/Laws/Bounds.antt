@@ -10,9 +10,9 @@ use Rattle.chip.specs.Modes.{largeSprites, magnified}
 use Rattle.chip.specs.State.{vramSize, masked}
 use Rattle.chip.proofs.Laws.Tables.{at-most-mask}
 use Rattle.sprites.specs.Shape.{scaled, rowOffset, covers}
-use Rattle.sprites.specs.Scan.{attributeAt, patternAt}
+use Rattle.sprites.specs.Scan.{attributeAddress, spritePatternAddress}
 
-pub attribute-inside : (r : List ℕ) → masked r ≡ true → (n k : ℕ) → n < 32 → k < 4 → attributeAt r n k < vramSize
+pub attribute-inside : (r : List ℕ) → masked r ≡ true → (n k : ℕ) → n < 32 → k < 4 → attributeAddress r n k < vramSize
 attribute-inside r ok n k hn hk = omega (arith, at-most-mask r ok 5 (lit< tt))
 
 -- a row of a sprite that covers the line is one of its 8 or 16
@@ -27,8 +27,8 @@ name-small : (g : Bool) (name : ℕ) → name < 256 → 8 * (name - cond g (name
 name-small true name h = omega arith
 name-small false name h = omega arith
 
-pub pattern-inside : (r : List ℕ) → masked r ≡ true → (l y name : ℕ) → covers r l y ≡ true → name < 256 → patternAt r l y name + cond (largeSprites r) 16 0 < vramSize
-unfolding patternAt
+pub pattern-inside : (r : List ℕ) → masked r ≡ true → (l y name : ℕ) → covers r l y ≡ true → name < 256 → spritePatternAddress r l y name + cond (largeSprites r) 16 0 < vramSize
+unfolding spritePatternAddress
 pattern-inside r ok l y name cov hn =
     omega (
       arith,

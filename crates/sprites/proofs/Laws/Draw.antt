@@ -12,13 +12,13 @@ use Rattle.chip.specs.Lists.{tabulate}
 use Rattle.chip.specs.Ranges.{anyBelow}
 use Rattle.chip.proofs.Laws.Lists.{tabulated, tabulate-same, length-tabulate, getD-tabulate}
 use Rattle.chip.proofs.Laws.Ranges.{none-holds, any-same, any-or}
-use Rattle.planes.specs.Pixel.{over, firstOf}
-use Rattle.sprites.specs.Pixels.{visible, hits, coloursAt, anyHits, meet, coincidence}
+use Rattle.planes.specs.Pixel.{over, firstNonZero}
+use Rattle.sprites.specs.Pixels.{visible, hits, spriteColours, anyHits, meet, coincidence}
 use Rattle.sprites.specs.declared.sprite.Sprite.{Sprite}
 
 -- What stands after the sprites of a list are drawn over a line: the line, the taken columns, and whether two met.
 pub record Over (r : List ℕ) (l : List Sprite) (old line taken : List ℕ) (met : Bool) : Type 0 where
-  pub shown : line ≡ tabulate 256 (λ x. firstOf (coloursAt r l (visible x)) (getD old x 0))
+  pub shown : line ≡ tabulate 256 (λ x. firstNonZero (spriteColours r l (visible x)) (getD old x 0))
   pub held : taken ≡ tabulate 256 (λ x. boolByte (anyHits r l (visible x)))
   pub found : met ≡ coincidence r l
 
@@ -61,7 +61,7 @@ module _ {r : List ℕ} {l : List Sprite} {old line taken : List ℕ} {met : Boo
             ∙ sym (any-or 256 (λ x. hits r s (visible x) && anyHits r l (visible x)) (λ x. meet r l (visible x)));
       }
     where
-      line-at : (x : ℕ) → x < 256 → getD line x 0 ≡ firstOf (coloursAt r l (visible x)) (getD old x 0)
+      line-at : (x : ℕ) → x < 256 → getD line x 0 ≡ firstNonZero (spriteColours r l (visible x)) (getD old x 0)
       line-at x h = ap (λ (t : List ℕ). getD t x 0) (o .shown) ∙ getD-tabulate 256 _ x h
 
       taken-at : (x : ℕ) → x < 256 → getD taken x 0 ≡ boolByte (anyHits r l (visible x))

@@ -7,37 +7,37 @@ use mathlib.Core.Bool.{Bool, true, false, cond, _&&_, _||_}
 use mathlib.Core.List.{List, _++_, append-nil}
 use borrow.Author.Tests.{eq-eqb, ne-eqb}
 use lib.ListN.{getD}
-use Rattle.chip.specs.Map.{isMarked}
-use Rattle.fetches.specs.Fetch.{answer, fetch, value, fetched, followed, anyMarked}
-use Rattle.fetches.proofs.Laws.{fetched-followed, marked-append}
+use Rattle.chip.specs.Map.{isDirty}
+use Rattle.fetches.specs.Fetch.{answer, fetch, value, fetched, followed, anyDirty}
+use Rattle.fetches.proofs.Laws.{fetched-followed, dirty-append}
 use Rattle.chip.specs.Modes.{largeSprites}
 use Rattle.chip.proofs.Laws.Ranges.{or-false}
 use Rattle.sprites.specs.Shape.{covers}
 use Rattle.sprites.specs.declared.sprite.Sprite.{Sprite}
-use Rattle.sprites.specs.Scan.{attributeAt, patternAt, spriteOf, found, seen, scanFrom}
+use Rattle.sprites.specs.Scan.{attributeAddress, spritePatternAddress, spriteOf, found, seen, scanFrom}
 
 module _ (r : List ℕ) (l : ℕ) (vram map : List ℕ) where
-  -- whether a byte is marked that is fetched from sprite n on, when k are drawn
+  -- whether a byte is dirty that is fetched from sprite n on, when k are drawn
   abbrev pub rest : ℕ → ℕ → Bool
-  rest n k = anyMarked map (fetched (scanFrom r l (32 - n) n k) vram)
+  rest n k = anyDirty map (fetched (scanFrom r l (32 - n) n k) vram)
 
   abbrev y : ℕ → ℕ
-  y n = getD vram (attributeAt r n 0) 0
+  y n = getD vram (attributeAddress r n 0) 0
 
   pub at-end : (n k : ℕ) → n ≡ 32 → rest n k ≡ false
   unfolding fetched scanFrom
   at-end n k e = rw e
 
-  one : (n k : ℕ) → n < 32 → rest n k ≡ (isMarked map (attributeAt r n 0) || anyMarked map (fetched (seen r l n k (y n) (scanFrom r l (32 - (n + 1)) (n + 1))) vram))
+  one : (n k : ℕ) → n < 32 → rest n k ≡ (isDirty map (attributeAddress r n 0) || anyDirty map (fetched (seen r l n k (y n) (scanFrom r l (32 - (n + 1)) (n + 1))) vram))
   unfolding fetched scanFrom
   one n k h =
       let e : 32 - n ≡ suc (32 - (n + 1)) = omega arith in
       rw (e, add-one)
 
-  pub y-marked : (n k : ℕ) → n < 32 → isMarked map (attributeAt r n 0) ≡ true → rest n k ≡ true
-  y-marked n k h m = one n k h ∙ rw m
+  pub y-dirty : (n k : ℕ) → n < 32 → isDirty map (attributeAddress r n 0) ≡ true → rest n k ≡ true
+  y-dirty n k h m = one n k h ∙ rw m
 
-  module _ (n k : ℕ) (h : n < 32) (clean : isMarked map (attributeAt r n 0) ≡ false) where
+  module _ (n k : ℕ) (h : n < 32) (clean : isDirty map (attributeAddress r n 0) ≡ false) where
     pub at-terminator : y n ≡ 208 → rest n k ≡ false
     unfolding fetched
     at-terminator e = one n k h ∙ rw (clean, eq-eqb _ _ e)
@@ -50,27 +50,27 @@ module _ (r : List ℕ) (l : ℕ) (vram map : List ℕ) where
       unfolding fetched
       at-fifth c e = one n k h ∙ rw (clean, ne-eqb _ _ more, c, eq-eqb _ _ e)
 
-      pub drawn : covers r l (y n) ≡ true → (k ≡ 4 → ⊥) → rest n k ≡ (anyMarked map (fetched (spriteOf r l n (y n)) vram) || rest (n + 1) (k + 1))
+      pub drawn : covers r l (y n) ≡ true → (k ≡ 4 → ⊥) → rest n k ≡ (anyDirty map (fetched (spriteOf r l n (y n)) vram) || rest (n + 1) (k + 1))
       unfolding fetched
       drawn c e =
           one n k h
           ∙ rw (clean, ne-eqb _ _ more, c, ne-eqb _ _ e, add-one k)
-          (ap (anyMarked map)
+          (ap (anyDirty map)
           (fetched-followed (spriteOf r l n (y n)) (λ s. followed (scanFrom r l (32 - (n + 1)) (n + 1) (suc k)) λ f. answer (found s f)) vram
           ∙ ap (λ (t : List ℕ). fetched (spriteOf r l n (y n)) vram ++ t)
           (fetched-followed (scanFrom r l (32 - (n + 1)) (n + 1) (suc k)) (λ f. answer (found (value (spriteOf r l n (y n)) vram) f)) vram ∙ append-nil (fetched (scanFrom r l (32 - (n + 1)) (n + 1) (suc k)) vram)))
-          ∙ marked-append map (fetched (spriteOf r l n (y n)) vram) (fetched (scanFrom r l (32 - (n + 1)) (n + 1) (suc k)) vram))
+          ∙ dirty-append map (fetched (spriteOf r l n (y n)) vram) (fetched (scanFrom r l (32 - (n + 1)) (n + 1) (suc k)) vram))
 
   -- the bytes of one drawn sprite
   module _ (n y : ℕ) where
     abbrev pub at : ℕ
-    at = patternAt r l y (getD vram (attributeAt r n 2) 0)
+    at = spritePatternAddress r l y (getD vram (attributeAddress r n 2) 0)
 
-    second : (g : Bool) (f : ℕ → Sprite) (s : Sprite) → anyMarked map (fetched (cond g (fetch (at + 16) λ b. answer (f b)) (answer s)) vram) ≡ (g && isMarked map (at + 16))
+    second : (g : Bool) (f : ℕ → Sprite) (s : Sprite) → anyDirty map (fetched (cond g (fetch (at + 16) λ b. answer (f b)) (answer s)) vram) ≡ (g && isDirty map (at + 16))
     unfolding fetched
-    second true f s = or-false (isMarked map (at + 16))
+    second true f s = or-false (isDirty map (at + 16))
     second false f s = refl
 
-    pub sprite-marked : anyMarked map (fetched (spriteOf r l n y) vram) ≡ (isMarked map (attributeAt r n 1) || (isMarked map (attributeAt r n 2) || (isMarked map (attributeAt r n 3) || (isMarked map at || largeSprites r && isMarked map (at + 16)))))
+    pub sprite-dirty : anyDirty map (fetched (spriteOf r l n y) vram) ≡ (isDirty map (attributeAddress r n 1) || (isDirty map (attributeAddress r n 2) || (isDirty map (attributeAddress r n 3) || (isDirty map at || largeSprites r && isDirty map (at + 16)))))
     unfolding fetched spriteOf
-    sprite-marked = ap (λ (b : Bool). isMarked map (attributeAt r n 1) || (isMarked map (attributeAt r n 2) || (isMarked map (attributeAt r n 3) || (isMarked map at || b)))) (second (largeSprites r) _ _)
+    sprite-dirty = ap (λ (b : Bool). isDirty map (attributeAddress r n 1) || (isDirty map (attributeAddress r n 2) || (isDirty map (attributeAddress r n 3) || (isDirty map at || b)))) (second (largeSprites r) _ _)

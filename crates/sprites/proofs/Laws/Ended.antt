@@ -10,7 +10,7 @@ use lib.ListN.{getD}
 use Rattle.fetches.specs.Fetch.{Fetch, answer, value, followed}
 use Rattle.fetches.proofs.Laws.{value-followed}
 use Rattle.sprites.specs.Shape.{covers}
-use Rattle.sprites.specs.Scan.{attributeAt, spriteOf, Found, found, seen, scanFrom, scanOf, fifthOf}
+use Rattle.sprites.specs.Scan.{attributeAddress, spriteOf, Found, found, seen, scanFrom, scanOf, fifthOf}
 use Rattle.sprites.specs.declared.scan.Ended.the-variants.{Terminator, Fifth}
 
 module _ (r : List ℕ) (l : ℕ) (m : List ℕ) where
@@ -30,7 +30,7 @@ module _ (r : List ℕ) (l : ℕ) (m : List ℕ) where
   unfolding value scanFrom
   from zero n k h = omega arith
   from (suc left) n k h =
-      let y = getD m (attributeAt r n 0) 0 in
+      let y = getD m (attributeAddress r n 0) 0 in
       let now : n ≤ 32 = omega arith in
       let later : suc n + left ≤ 32 = omega arith in
       ways (eqb y 208) (covers r l y) (eqb k 4) n k y (scanFrom r l left (suc n)) now (λ j. from left (suc n) j later)

@@ -11,7 +11,7 @@ use lib.Seq.{take-suc-set}
 use Rattle.fetches.specs.Fetch.{answer, value, followed}
 use Rattle.fetches.proofs.Laws.{value-followed}
 use Rattle.sprites.specs.Shape.{covers}
-use Rattle.sprites.specs.Scan.{attributeAt, spriteOf, Found, found, seen, scanFrom, scanOf}
+use Rattle.sprites.specs.Scan.{attributeAddress, spriteOf, Found, found, seen, scanFrom, scanOf}
 use Rattle.sprites.specs.Scanned.{Scanned}
 use Rattle.sprites.specs.declared.scan.Ended.{Ended}
 use Rattle.sprites.specs.declared.scan.Ended.the-variants.{Terminator, Fifth, All}
@@ -23,7 +23,7 @@ module _ (r : List ℕ) (l : ℕ) (vram : List ℕ) where
   rest n k = value (scanFrom r l (32 - n) n k) vram
 
   abbrev y : ℕ → ℕ
-  y n = getD vram (attributeAt r n 0) 0
+  y n = getD vram (attributeAddress r n 0) 0
 
   pub at-end : (n k : ℕ) → n ≡ 32 → rest n k ≡ record { sprites = []; ended = All }
   unfolding value scanFrom

@@ -9,7 +9,7 @@ use Rattle.chip.proofs.Laws.Ranges.{and-false}
 use Rattle.snapshot.specs.Lists.{putAt}
 use Rattle.text.specs.Runs.{same}
 use Rattle.text.specs.Lines.{refusedText, statusText, rangeText}
-use Rattle.text.specs.Calls.{refusedWritten, statusWritten, endWritten, stepStarts, stepWritten, stepped}
+use Rattle.text.specs.Calls.{refusedWritten, statusWritten, endWritten, stepStarts, stepWritten, stepAnswer}
 
 module _ (number : ℕ) (out : List ℕ) where
   pub refused-short : length out < 12 → refusedWritten number out ≡ []
@@ -69,9 +69,9 @@ module _ (first last : ℕ) (range line out : List ℕ) where
   written-some e = rw e
 
   -- the range goes on
-  pub step-none : stepStarts range line out ≡ false → (record { written = 0; starts = false } ≡ stepped first last range line out) × (out ≡ putAt 0 (stepWritten first last range line out) out)
+  pub step-none : stepStarts range line out ≡ false → (record { written = 0; starts = false } ≡ stepAnswer first last range line out) × (out ≡ putAt 0 (stepWritten first last range line out) out)
   step-none e = rw (written-none e, e) (refl, refl)
 
   -- the range ends
-  pub step-some : {n : ℕ} {out′ : List ℕ} → stepStarts range line out ≡ true → (n ≡ length (rangeText first last range)) × (out′ ≡ putAt 0 (rangeText first last range) out) → (record { written = n; starts = true } ≡ stepped first last range line out) × (out′ ≡ putAt 0 (stepWritten first last range line out) out)
+  pub step-some : {n : ℕ} {out′ : List ℕ} → stepStarts range line out ≡ true → (n ≡ length (rangeText first last range)) × (out′ ≡ putAt 0 (rangeText first last range) out) → (record { written = n; starts = true } ≡ stepAnswer first last range line out) × (out′ ≡ putAt 0 (stepWritten first last range line out) out)
   step-some e p = rw (written-some e, e) ((λ i. record { written = p .0 i; starts = true }), p .1)

@@ -5,7 +5,7 @@ use Rattle.chip.specs.declared.state.Chip.{Chip}
 use Rattle.chip.specs.declared.refusal.Answer.{Answer}
 use Rattle.chip.specs.declared.refusal.Refusal.{Refusal}
 use Rattle.frame.specs.Draw.{drawnState}
-use Rattle.frame.proofs.Laws.Clean.{clean-marked, refreshed-frame, refreshed-notes}
+use Rattle.frame.proofs.Laws.Clean.{clean-while-redraw, refreshed-frame, refreshed-notes}
 use borrow.Author.Needs.{needs}
 use Rattle.frame.proofs.Laws.Calls.{accepted-shows, refused-answer, refused-list, was-accepted, accepted-answer, accepted-list}
 use Rattle.frame.proofs.calls.full_draw.Statement.{statement}
@@ -61,7 +61,7 @@ returns-2 c =
     let number = c .before .before .before .before .before .before .before .before .before .before .before .before .before .number .ensures in
     let tested = c .before .before .before .before .before .before .before .before .before .before .before .before .before .before .tested .ensures in
     let drawn = c .before .before .before .before .before .before .before .before .draw-due .ensures in
-    let clean = clean-marked (a .chip .registers) (now (a .vram)) (now (a .map)) (now (a .frame)) (now (a .notes)) in
+    let clean = clean-while-redraw (a .chip .registers) (now (a .vram)) (now (a .map)) (now (a .frame)) (now (a .notes)) in
     let notes = refreshed-notes clean in
     let next = ap (λ (y : Answer). y .chip) (drawn .0) ∙ ap (drawnState (a .chip)) notes in
     let answer = c .accepted .ensures ∙ ap (λ (x : Chip). record { chip = x; refusal = Refusal.Accepted; value = 0 }) next in

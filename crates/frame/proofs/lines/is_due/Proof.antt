@@ -8,12 +8,12 @@ returns : tie.Need-returns
 unfolding due
 returns c = rw (c .if1 .taken)
 
-line-marked-requires : tie.Need-line-marked-requires
-line-marked-requires c κs = search needs
+line-dirty-requires : tie.Need-line-dirty-requires
+line-dirty-requires c κs = search needs
 
 returns-2 : tie.Need-returns-2
 unfolding due
-returns-2 c = rw (c .before .if1 .left) (c .line-marked .ensures)
+returns-2 c = rw (c .before .if1 .left) (c .line-dirty .ensures)
 
 pub is-due-spec : {M : Type 1} → statement M
-is-due-spec = tie.close (tie.spec returns line-marked-requires returns-2)
+is-due-spec = tie.close (tie.spec returns line-dirty-requires returns-2)

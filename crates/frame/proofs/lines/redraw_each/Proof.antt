@@ -15,16 +15,16 @@ use Rattle.frame.proofs.lines.redraw_each.Statement.{statement}
 use Rattle.frame.proofs.lines.redraw_each.Tie as tie
 
 abbrev Inv-loop : tie.InvT-loop
-Inv-loop mark r vram map frame₀ notes₀ redrawn₀ l₀ frame notes redrawn l = (l ≤ 192) × (length frame ≡ 49152) × Redrawn (newLine mark r vram map frame₀) (newNote mark r vram map notes₀) (due mark r vram map) frame₀ notes₀ frame notes redrawn l
+Inv-loop redraw r vram map frame₀ notes₀ redrawn₀ l₀ frame notes redrawn l = (l ≤ 192) × (length frame ≡ 49152) × Redrawn (newLine redraw r vram map frame₀) (newNote redraw r vram map notes₀) (due redraw r vram map) frame₀ notes₀ frame notes redrawn l
 
 abbrev μ-loop : tie.MeasureT-loop
-μ-loop mark r vram map frame₀ notes₀ redrawn₀ l₀ frame notes redrawn l = 192 - l
+μ-loop redraw r vram map frame₀ notes₀ redrawn₀ l₀ frame notes redrawn l = 192 - l
 
 loop-holds : tie.Need-loop-holds Inv-loop μ-loop
 loop-holds c =
     let a = c .before .before .before .before .args in
-    let wide = wide-line (a .mark) (a .r) (now (a .vram)) (now (a .map)) (now (a .frame)) (omega arith) in
-    (omega arith, omega arith, redrawn-none (newLine (a .mark) (a .r) (now (a .vram)) (now (a .map)) (now (a .frame))) (newNote (a .mark) (a .r) (now (a .vram)) (now (a .map)) (now (a .notes))) (due (a .mark) (a .r) (now (a .vram)) (now (a .map))) wide (omega arith))
+    let wide = wide-line (a .redraw) (a .r) (now (a .vram)) (now (a .map)) (now (a .frame)) (omega arith) in
+    (omega arith, omega arith, redrawn-none (newLine (a .redraw) (a .r) (now (a .vram)) (now (a .map)) (now (a .frame))) (newNote (a .redraw) (a .r) (now (a .vram)) (now (a .map)) (now (a .notes))) (due (a .redraw) (a .r) (now (a .vram)) (now (a .map))) wide (omega arith))
 
 cast-i : tie.Need-cast-i Inv-loop μ-loop
 cast-i c = search needs
@@ -60,7 +60,7 @@ add-redrawn : tie.Need-add-redrawn Inv-loop μ-loop
 add-redrawn c =
     let at = c .before .before .before .before .before .before .before .loop in
     let a = c .before .before .before .before .before .before .before .before .before .before .before .before .args in
-    let below = count-le (at .l) (due (a .mark) (a .r) (now (a .vram)) (now (a .map))) in
+    let below = count-le (at .l) (due (a .redraw) (a .r) (now (a .vram)) (now (a .map))) in
     let one = bit-small (c .before .before .before .redraw-line .result .redrawn) in
     omega (arith, at .inv .2 .counted)
 
@@ -75,10 +75,10 @@ loop-again c =
     let at = c .before .before .before .before .before .before .before .loop in
     let a = c .before .before .before .before .before .before .before .before .before .before .before .before .args in
     let turn = c .before .before .before .redraw-line in
-    let line = newLine (a .mark) (a .r) (now (a .vram)) (now (a .map)) (now (a .frame)) in
-    let note = newNote (a .mark) (a .r) (now (a .vram)) (now (a .map)) (now (a .notes)) in
-    let is = due (a .mark) (a .r) (now (a .vram)) (now (a .map)) in
-    let wide : (k : ℕ) → k < 192 → length (line k) ≡ 256 = wide-line (a .mark) (a .r) (now (a .vram)) (now (a .map)) (now (a .frame)) (omega arith) in
+    let line = newLine (a .redraw) (a .r) (now (a .vram)) (now (a .map)) (now (a .frame)) in
+    let note = newNote (a .redraw) (a .r) (now (a .vram)) (now (a .map)) (now (a .notes)) in
+    let is = due (a .redraw) (a .r) (now (a .vram)) (now (a .map)) in
+    let wide : (k : ℕ) → k < 192 → length (line k) ≡ 256 = wide-line (a .redraw) (a .r) (now (a .vram)) (now (a .map)) (now (a .frame)) (omega arith) in
     let width : 256 * at .l + 256 - 256 * at .l ≡ 256 = omega arith in
     let long = prefix-long line note is wide (omega arith) (at .inv .2) in
     let kept = ap (λ (w : ℕ). take w (drop (256 * at .l) (at .frame))) width ∙ old-line line (now (a .frame)) (at .frame) (at .l) long (at .inv .2 .lines) in
@@ -97,12 +97,12 @@ returns : tie.Need-returns Inv-loop μ-loop
 returns c =
     let at = c .before .loop in
     let a = c .before .before .before .before .before .before .args in
-    let line = newLine (a .mark) (a .r) (now (a .vram)) (now (a .map)) (now (a .frame)) in
-    let note = newNote (a .mark) (a .r) (now (a .vram)) (now (a .map)) (now (a .notes)) in
-    let is = due (a .mark) (a .r) (now (a .vram)) (now (a .map)) in
+    let line = newLine (a .redraw) (a .r) (now (a .vram)) (now (a .map)) (now (a .frame)) in
+    let note = newNote (a .redraw) (a .r) (now (a .vram)) (now (a .map)) (now (a .notes)) in
+    let is = due (a .redraw) (a .r) (now (a .vram)) (now (a .map)) in
     let e : at .l ≡ 192 = omega arith in
     let end : Redrawn line note is (now (a .frame)) (now (a .notes)) (at .frame) (at .notes) (at .redrawn) 192 = rw (← e) (at .inv .2) in
-    let all = redrawn-all line note is (wide-line (a .mark) (a .r) (now (a .vram)) (now (a .map)) (now (a .frame)) (omega arith)) (omega arith) end in
+    let all = redrawn-all line note is (wide-line (a .redraw) (a .r) (now (a .vram)) (now (a .map)) (now (a .frame)) (omega arith)) (omega arith) end in
     (end .counted, all)
 
 pub redraw-each-spec : {M : Type 1} → statement M

@@ -1,4 +1,4 @@
--- `redraw_lines`: with mark and map clear all stays as it is.
+-- `redraw_lines`: with redraw and map clear all stays as it is.
 use native.Mathlib.Omega.{arith}
 use denote.Ref.{now}
 use borrow.Author.Needs.{needs}
@@ -12,7 +12,7 @@ is-clear-requires c κs = search needs
 returns : tie.Need-returns
 returns c =
     let a = c .before .before .before .before .before .before .args in
-    let both = clear-both (a .mark) _ (c .if1 .taken) in
+    let both = clear-both (a .redraw) _ (c .if1 .taken) in
     let clear = c .before .is-clear .ensures (both .1) in
     rw (both .0)
     (no-count (now (a .map)) clear (a .r) (now (a .vram)), (frame-stays (now (a .map)) clear (a .r) (now (a .vram)) (now (a .frame)) (omega arith), notes-stay (now (a .map)) clear (a .r) (now (a .vram)) (now (a .notes)) (omega arith)))

@@ -7,34 +7,34 @@ use borrow.Author.Needs.{needs}
 use Rattle.planes.proofs.cell.pattern_and_colours.Statement.{statement}
 use Rattle.planes.proofs.cell.pattern_and_colours.Tie as tie
 
-pattern-at-requires : tie.Need-pattern-at-requires
-pattern-at-requires c κs = search needs
+pattern-address-requires : tie.Need-pattern-address-requires
+pattern-address-requires c κs = search needs
 
 shared-slice-read-pattern : tie.Need-shared-slice-read-pattern
 shared-slice-read-pattern c =
     let s = c .before .before .before in
-    let low : c .before .pattern-at .result < 16384 = rw (c .before .pattern-at .ensures) (pattern-inside (s .args .mode) (s .args .r) (s .pre .0) (s .args .l) (s .pre .2) (s .args .name) (s .fits .name .fits)) in
+    let low : c .before .pattern-address .result < 16384 = rw (c .before .pattern-address .ensures) (pattern-inside (s .args .mode) (s .args .r) (s .pre .0) (s .args .l) (s .pre .2) (s .args .name) (s .fits .name .fits)) in
     omega arith
 
-colours-at-requires : tie.Need-colours-at-requires
-colours-at-requires c κs = search needs
+colour-address-requires : tie.Need-colour-address-requires
+colour-address-requires c κs = search needs
 
 shared-slice-read-colours : tie.Need-shared-slice-read-colours
 shared-slice-read-colours c =
     let s = c .before .before .before .before .before in
-    let low : c .before .colours-at .result < 16384 = rw (c .before .colours-at .ensures) (colours-inside (s .args .mode) (s .args .r) (s .pre .0) (s .args .l) (s .pre .2) (s .args .name) (s .fits .name .fits)) in
+    let low : c .before .colour-address .result < 16384 = rw (c .before .colour-address .ensures) (colours-inside (s .args .mode) (s .args .r) (s .pre .0) (s .args .l) (s .pre .2) (s .args .name) (s .fits .name .fits)) in
     omega arith
 
 returns : tie.Need-returns
 unfolding value
-returns c = simp (c .before .colours-at .ensures, c .before .before .before .pattern-at .ensures)
+returns c = simp (c .before .colour-address .ensures, c .before .before .before .pattern-address .ensures)
 
 pub pattern-and-colours-spec : {M : Type 1} → statement M
 pattern-and-colours-spec =
     tie.close
     (tie.spec
-    pattern-at-requires
+    pattern-address-requires
     shared-slice-read-pattern
-    colours-at-requires
+    colour-address-requires
     shared-slice-read-colours
     returns)

@@ -26,25 +26,25 @@ pattern-and-colours-requires-2 c κs = search needs
 enum-told-4 : tie.Need-enum-told-4
 enum-told-4 c = search needs
 
-pattern-at-requires : tie.Need-pattern-at-requires
-pattern-at-requires c κs = search needs
+pattern-address-requires : tie.Need-pattern-address-requires
+pattern-address-requires c κs = search needs
 
 shared-slice-read-colours : tie.Need-shared-slice-read-colours
 shared-slice-read-colours c =
     let s = c .before .before .before .before .before in
-    let low : c .before .pattern-at .result < 16384 = rw (c .before .pattern-at .ensures) (pattern-inside (s .args .mode) (s .args .t2) (s .pre .0) (s .args .l) (s .pre .2) (s .args .name) (s .fits .name .fits)) in
+    let low : c .before .pattern-address .result < 16384 = rw (c .before .pattern-address .ensures) (pattern-inside (s .args .mode) (s .args .t2) (s .pre .0) (s .args .l) (s .pre .2) (s .args .name) (s .fits .name .fits)) in
     omega arith
 
 enum-told-5 : tie.Need-enum-told-5
 enum-told-5 c = search needs
 
-pattern-at-requires-2 : tie.Need-pattern-at-requires-2
-pattern-at-requires-2 c κs = search needs
+pattern-address-requires-2 : tie.Need-pattern-address-requires-2
+pattern-address-requires-2 c κs = search needs
 
 shared-slice-read-pattern : tie.Need-shared-slice-read-pattern
 shared-slice-read-pattern c =
     let s = c .before .before .before .before .before in
-    let low : c .before .pattern-at2 .result < 16384 = rw (c .before .pattern-at2 .ensures) (pattern-inside (s .args .mode) (s .args .t2) (s .pre .0) (s .args .l) (s .pre .2) (s .args .name) (s .fits .name .fits)) in
+    let low : c .before .pattern-address2 .result < 16384 = rw (c .before .pattern-address2 .ensures) (pattern-inside (s .args .mode) (s .args .t2) (s .pre .0) (s .args .l) (s .pre .2) (s .args .name) (s .fits .name .fits)) in
     omega arith
 
 array-read-t19 : tie.Need-array-read-t19
@@ -64,11 +64,11 @@ returns-3 c = rw (c .before .enum-told3 .given .1) (rw (c .before .enum-told3 .g
 
 returns-4 : tie.Need-returns-4
 unfolding value shapeOf
-returns-4 c = rw (c .before .pattern-at .ensures, c .before .before .enum-told4 .given .1)
+returns-4 c = rw (c .before .pattern-address .ensures, c .before .before .enum-told4 .given .1)
 
 returns-5 : tie.Need-returns-5
 unfolding value shapeOf
-returns-5 c = rw (c .before .pattern-at2 .ensures, c .before .before .enum-told5 .given .1)
+returns-5 c = rw (c .before .pattern-address2 .ensures, c .before .before .enum-told5 .given .1)
 
 pub shape-of-spec : {M : Type 1} → statement M
 shape-of-spec =
@@ -80,10 +80,10 @@ shape-of-spec =
     enum-told-3
     pattern-and-colours-requires-2
     enum-told-4
-    pattern-at-requires
+    pattern-address-requires
     shared-slice-read-colours
     enum-told-5
-    pattern-at-requires-2
+    pattern-address-requires-2
     shared-slice-read-pattern
     array-read-t19
     returns

@@ -6,7 +6,7 @@ use native.Mathlib.Omega.{arith}
 use mathlib.Core.Path.{_≡_, ap, _∙_}
 use borrow.Author.Needs.{needs}
 use Rattle.planes.specs.Cells.{cellsIn, cellWidth, margin}
-use Rattle.planes.specs.Pixel.{rear}
+use Rattle.planes.specs.Pixel.{behindPlanes}
 use Rattle.planes.proofs.Laws.Cells.{run-within, eight-or-six, cells-few}
 use Rattle.planes.proofs.Laws.Painted.{Shown}
 use Rattle.planes.proofs.Laws.Plane.{colour, shown-none, shown-cell, shown-plane}
@@ -14,7 +14,7 @@ use Rattle.planes.proofs.plane.draw_plane.Statement.{statement}
 use Rattle.planes.proofs.plane.draw_plane.Tie as tie
 
 abbrev Inv-loop : tie.InvT-loop
-Inv-loop mode r vram l line₀ behind cells width at₀ i₀ line at i = (i ≤ cellsIn mode) × (at ≡ margin mode + i * cellWidth mode) × Shown line (colour mode r l vram) (rear r) at
+Inv-loop mode r vram l line₀ behind cells width at₀ i₀ line at i = (i ≤ cellsIn mode) × (at ≡ margin mode + i * cellWidth mode) × Shown line (colour mode r l vram) (behindPlanes r) at
 
 abbrev μ-loop : tie.MeasureT-loop
 μ-loop mode r vram l line₀ behind cells width at₀ i₀ line at i = cellsIn mode - i
@@ -33,8 +33,8 @@ width c = c .before .before .before .cell-width .ensures
 room : (c : tie.In-loop Inv-loop μ-loop) → c .before .loop .at + c .before .before .before .cell-width .result < 257
 room c = rw (width c, c .before .loop .inv .1) (run-within (Start (c .before .before) .args .mode) (c .before .loop .i) (more c))
 
-rear-of-requires : tie.Need-rear-of-requires Inv-loop μ-loop
-rear-of-requires c κs = search needs
+behind-planes-requires : tie.Need-behind-planes-requires Inv-loop μ-loop
+behind-planes-requires c κs = search needs
 
 fill-requires : tie.Need-fill-requires Inv-loop μ-loop
 fill-requires c κs = search needs
@@ -52,7 +52,7 @@ loop-holds : tie.Need-loop-holds Inv-loop μ-loop
 loop-holds c =
     let f = c .before .before .before .before .before in
     let a = Start c .args in
-    let filled = rw (f .before .before .rear-of .ensures, Start c .pre .3) at (f .fill .ensures) in
+    let filled = rw (f .before .before .behind-planes .ensures, Start c .pre .3) at (f .fill .ensures) in
     (zero-le, rw (zero-mul, add-zero) (c .margin-of .ensures), rw (c .margin-of .ensures) (shown-none (a .mode) (a .r) (a .l) (a .vram .now) filled))
 
 cell-of-requires : tie.Need-cell-of-requires Inv-loop μ-loop
@@ -80,7 +80,7 @@ loop-again c =
     let h = i .before .loop in
     let a = Start (i .before .before) .args in
     let d = c .before .before in
-    let painted = simp (width i, d .before .before .cell-of .ensures, i .before .before .before .before .before .before .before .before .before .rear-of .ensures) at (d .show-cell .ensures) in (
+    let painted = simp (width i, d .before .before .cell-of .ensures, i .before .before .before .before .before .before .before .before .before .behind-planes .ensures) at (d .show-cell .ensures) in (
       omega (arith, more i),
       rw (width i, add-one, suc-mul) (omega arith),
       rw (width i) (shown-cell (a .mode) (a .r) (a .l) (a .vram .now) (h .i) (more i) (h .inv .1) (h .inv .2) painted),
@@ -101,7 +101,7 @@ draw-plane-spec =
     (tie.spec
     Inv-loop
     μ-loop
-    rear-of-requires
+    behind-planes-requires
     fill-requires
     cells-in-requires
     cell-width-requires

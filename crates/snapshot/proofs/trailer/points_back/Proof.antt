@@ -7,14 +7,14 @@ use Rattle.snapshot.proofs.trailer.points_back.Tie as tie
 sub-trailer : tie.Need-sub-trailer
 sub-trailer c = search needs
 
-shared-slice-read-mark : tie.Need-shared-slice-read-mark
-shared-slice-read-mark c = search needs
+shared-slice-read-signature : tie.Need-shared-slice-read-signature
+shared-slice-read-signature c = search needs
 
-add-mark : tie.Need-add-mark
-add-mark c = search needs
+add-signature : tie.Need-add-signature
+add-signature c = search needs
 
-shared-slice-read-mark-2 : tie.Need-shared-slice-read-mark-2
-shared-slice-read-mark-2 c = search needs
+shared-slice-read-signature-2 : tie.Need-shared-slice-read-signature-2
+shared-slice-read-signature-2 c = search needs
 
 add-pair-at : tie.Need-add-pair-at
 add-pair-at c = search needs
@@ -37,9 +37,9 @@ points-back-spec =
     tie.close
     (tie.spec
     sub-trailer
-    shared-slice-read-mark
-    add-mark
-    shared-slice-read-mark-2
+    shared-slice-read-signature
+    add-signature
+    shared-slice-read-signature-2
     add-pair-at
     pair-at-requires
     add-pair-at-2

@@ -7,7 +7,7 @@ use borrow.Author.Needs.{needs}
 use lib.Dec.{lit<}
 use lib.ListN.{getD}
 use Rattle.chip.proofs.Laws.State.{taken-not, left-not}
-use Rattle.sprites.specs.Scan.{attributeAt}
+use Rattle.sprites.specs.Scan.{attributeAddress}
 use Rattle.sprites.specs.Shape as shape
 use Rattle.sprites.proofs.Laws.Bounds.{attribute-inside}
 use Rattle.sprites.proofs.Laws.Scan.{Going, going-start, going-on, going-draw, going-end, at-end, at-terminator, not-covering, at-fifth, drawn}
@@ -35,13 +35,13 @@ abbrev St : tie.Else2 Inv-loop μ-loop → tie.Start Inv-loop μ-loop
 St c = At c .before .before
 
 abbrev Y : tie.Else2 Inv-loop μ-loop → ℕ
-Y c = getD (St c .args .vram .now) (attributeAt (St c .args .r) (At c .loop .n) 0) 0
+Y c = getD (St c .args .vram .now) (attributeAddress (St c .args .r) (At c .loop .n) 0) 0
 
 more : (c : tie.Else2 Inv-loop μ-loop) → Y c ≡ 208 → ⊥
-more c = rw (c .before .before .attribute-at .ensures) at (c .if2 .left)
+more c = rw (c .before .before .attribute-address .ensures) at (c .if2 .left)
 
 cov : (c : tie.After-covers Inv-loop μ-loop) → c .covers .result ≡ shape.covers (St (c .before) .args .r) (St (c .before) .args .l) (Y (c .before))
-cov c = rw (c .before .before .before .attribute-at .ensures) at (c .covers .ensures)
+cov c = rw (c .before .before .before .attribute-address .ensures) at (c .covers .ensures)
 
 -- sprite n covers the line
 does : (c : tie.Else3 Inv-loop μ-loop) → shape.covers (St (c .before .before) .args .r) (St (c .before .before) .args .l) (Y (c .before .before)) ≡ true
@@ -53,14 +53,14 @@ few c = let most = At (c .before .before .before) .loop .inv .few in let not-fou
 loop-holds : tie.Need-loop-holds Inv-loop μ-loop
 loop-holds c = going-start (search needs)
 
-attribute-at-requires : tie.Need-attribute-at-requires Inv-loop μ-loop
-attribute-at-requires c κs = (c .before .before .before .pre .0, left c, lit< tt)
+attribute-address-requires : tie.Need-attribute-address-requires Inv-loop μ-loop
+attribute-address-requires c κs = (c .before .before .before .pre .0, left c, lit< tt)
 
 shared-slice-read-y : tie.Need-shared-slice-read-y Inv-loop μ-loop
 shared-slice-read-y c =
     let s = c .before .before .before .before .before in
     let e = c .before .before in
-    let low : c .before .attribute-at .result < 16384 = rw (c .before .attribute-at .ensures) (attribute-inside (s .args .r) (s .pre .0) (e .before .loop .n) 0 (left e) (lit< tt)) in
+    let low : c .before .attribute-address .result < 16384 = rw (c .before .attribute-address .ensures) (attribute-inside (s .args .r) (s .pre .0) (e .before .loop .n) 0 (left e) (lit< tt)) in
     omega arith
 
 covers-requires : tie.Need-covers-requires Inv-loop μ-loop
@@ -104,7 +104,7 @@ loop-again-2 : tie.Need-loop-again-2 Inv-loop μ-loop
 loop-again-2 c =
     let e = c .before .before .before .before in
     let d = drawn (St e .args .r) (St e .args .l) (St e .args .vram .now) (At e .loop .n) (At e .loop .drawn) (left (E1 e)) (more e) (does (c .before .before)) (c .before .if4 .left) in
-    let s = rw (e .before .before .attribute-at .ensures) at (c .sprite-of .ensures) in
+    let s = rw (e .before .before .attribute-address .ensures) at (c .sprite-of .ensures) in
     going-draw (At e .loop .inv) (c .sprite-of .result) (left (E1 e)) (few (c .before)) (rw s d)
 
 returns : tie.Need-returns Inv-loop μ-loop
@@ -115,7 +115,7 @@ returns-2 c =
     let a = c .before .before in
     let s = a .before .before .before .before in
     let h = a .before .before .loop in
-    going-end (h .inv) _ (at-terminator (s .args .r) (s .args .l) (s .args .vram .now) (h .n) (h .drawn) (left (a .before)) (rw (a .attribute-at .ensures) at (c .if2 .taken)))
+    going-end (h .inv) _ (at-terminator (s .args .r) (s .args .l) (s .args .vram .now) (h .n) (h .drawn) (left (a .before)) (rw (a .attribute-address .ensures) at (c .if2 .taken)))
 
 returns-3 : tie.Need-returns-3 Inv-loop μ-loop
 returns-3 c =
@@ -129,7 +129,7 @@ scan-of-spec =
     Inv-loop
     μ-loop
     loop-holds
-    attribute-at-requires
+    attribute-address-requires
     shared-slice-read-y
     covers-requires
     add-n

@@ -3,8 +3,8 @@ use borrow.Author.Needs.{needs}
 use Rattle.sprites.proofs.sprite.sprite_by.Statement.{statement}
 use Rattle.sprites.proofs.sprite.sprite_by.Tie as tie
 
-first-of-requires : tie.Need-first-of-requires
-first-of-requires c κs = search needs
+first-column-requires : tie.Need-first-column-requires
+first-column-requires c κs = search needs
 
 mul-t8 : tie.Need-mul-t8
 mul-t8 c = search needs
@@ -13,7 +13,7 @@ add-t10 : tie.Need-add-t10
 add-t10 c = search needs
 
 returns : tie.Need-returns
-returns c = rw (c .first-of .ensures)
+returns c = rw (c .first-column .ensures)
 
 pub sprite-by-spec : {M : Type 1} → statement M
-sprite-by-spec = tie.close (tie.spec first-of-requires mul-t8 add-t10 returns)
+sprite-by-spec = tie.close (tie.spec first-column-requires mul-t8 add-t10 returns)

@@ -12,41 +12,41 @@ use borrow.Author.Needs.{needs}
 use Rattle.sprites.proofs.sprite.sprite_of.Statement.{statement}
 use Rattle.sprites.proofs.sprite.sprite_of.Tie as tie
 
-attribute-at-requires : tie.Need-attribute-at-requires
-attribute-at-requires c κs = search needs
+attribute-address-requires : tie.Need-attribute-address-requires
+attribute-address-requires c κs = search needs
 
 shared-slice-read-x : tie.Need-shared-slice-read-x
 shared-slice-read-x c =
     let s = c .before .before .before in
-    let low : c .before .attribute-at .result < 16384 = rw (c .before .attribute-at .ensures) (attribute-inside (s .args .r) (s .pre .0) (s .args .n) 1 (s .pre .3) (lit< tt)) in
+    let low : c .before .attribute-address .result < 16384 = rw (c .before .attribute-address .ensures) (attribute-inside (s .args .r) (s .pre .0) (s .args .n) 1 (s .pre .3) (lit< tt)) in
     omega arith
 
-attribute-at-requires-2 : tie.Need-attribute-at-requires-2
-attribute-at-requires-2 c κs = search needs
+attribute-address-requires-2 : tie.Need-attribute-address-requires-2
+attribute-address-requires-2 c κs = search needs
 
 shared-slice-read-name : tie.Need-shared-slice-read-name
 shared-slice-read-name c =
     let s = c .before .before .before .before .before in
-    let low : c .before .attribute-at2 .result < 16384 = rw (c .before .attribute-at2 .ensures) (attribute-inside (s .args .r) (s .pre .0) (s .args .n) 2 (s .pre .3) (lit< tt)) in
+    let low : c .before .attribute-address2 .result < 16384 = rw (c .before .attribute-address2 .ensures) (attribute-inside (s .args .r) (s .pre .0) (s .args .n) 2 (s .pre .3) (lit< tt)) in
     omega arith
 
-attribute-at-requires-3 : tie.Need-attribute-at-requires-3
-attribute-at-requires-3 c κs = search needs
+attribute-address-requires-3 : tie.Need-attribute-address-requires-3
+attribute-address-requires-3 c κs = search needs
 
 shared-slice-read-c : tie.Need-shared-slice-read-c
 shared-slice-read-c c =
     let s = c .before .before .before .before .before .before .before in
-    let low : c .before .attribute-at3 .result < 16384 = rw (c .before .attribute-at3 .ensures) (attribute-inside (s .args .r) (s .pre .0) (s .args .n) 3 (s .pre .3) (lit< tt)) in
+    let low : c .before .attribute-address3 .result < 16384 = rw (c .before .attribute-address3 .ensures) (attribute-inside (s .args .r) (s .pre .0) (s .args .n) 3 (s .pre .3) (lit< tt)) in
     omega arith
 
-pattern-at-requires : tie.Need-pattern-at-requires
-pattern-at-requires c κs = search needs
+sprite-pattern-address-requires : tie.Need-sprite-pattern-address-requires
+sprite-pattern-address-requires c κs = search needs
 
 -- the pattern byte, and with size the right half's
-low : (c : tie.After-pattern-at) → c .pattern-at .result + cond (largeSprites (c .before .before .before .before .before .before .before .before .args .r)) 16 0 < 16384
+low : (c : tie.After-sprite-pattern-address) → c .sprite-pattern-address .result + cond (largeSprites (c .before .before .before .before .before .before .before .before .args .r)) 16 0 < 16384
 low c =
     let s = c .before .before .before .before .before .before .before .before in
-    rw (c .pattern-at .ensures) (pattern-inside (s .args .r) (s .pre .0) (s .args .l) (s .args .y) _ (s .pre .2) (omega (arith, c .before .before .before .shared-slice-known3 .given (c .before .before .before .before .attribute-at2 .result))))
+    rw (c .sprite-pattern-address .ensures) (pattern-inside (s .args .r) (s .pre .0) (s .args .l) (s .args .y) _ (s .pre .2) (omega (arith, c .before .before .before .shared-slice-known3 .given (c .before .before .before .before .attribute-address2 .result))))
 
 shared-slice-read-left : tie.Need-shared-slice-read-left
 shared-slice-read-left c = omega (arith, low (c .before))
@@ -74,25 +74,25 @@ returns : tie.Need-returns
 unfolding value spriteOf
 returns c =
     rw (sym (c .before .before .before .is-large .ensures) ∙ c .before .before .if1 .taken)
-    (rw (c .before .before .before .before .before .pattern-at .ensures, c .before .before .before .before .before .before .before .attribute-at3 .ensures, c .before .before .before .before .before .before .before .before .before .attribute-at2 .ensures, c .before .before .before .before .before .before .before .before .before .before .before .attribute-at .ensures) at (c .sprite-by .ensures))
+    (rw (c .before .before .before .before .before .sprite-pattern-address .ensures, c .before .before .before .before .before .before .before .attribute-address3 .ensures, c .before .before .before .before .before .before .before .before .before .attribute-address2 .ensures, c .before .before .before .before .before .before .before .before .before .before .before .attribute-address .ensures) at (c .sprite-by .ensures))
 
 returns-2 : tie.Need-returns-2
 unfolding value spriteOf
 returns-2 c =
     rw (sym (c .before .before .is-large .ensures) ∙ c .before .if1 .left)
-    (rw (c .before .before .before .before .pattern-at .ensures, c .before .before .before .before .before .before .attribute-at3 .ensures, c .before .before .before .before .before .before .before .before .attribute-at2 .ensures, c .before .before .before .before .before .before .before .before .before .before .attribute-at .ensures) at (c .sprite-by2 .ensures))
+    (rw (c .before .before .before .before .sprite-pattern-address .ensures, c .before .before .before .before .before .before .attribute-address3 .ensures, c .before .before .before .before .before .before .before .before .attribute-address2 .ensures, c .before .before .before .before .before .before .before .before .before .before .attribute-address .ensures) at (c .sprite-by2 .ensures))
 
 pub sprite-of-spec : {M : Type 1} → statement M
 sprite-of-spec =
     tie.close
     (tie.spec
-    attribute-at-requires
+    attribute-address-requires
     shared-slice-read-x
-    attribute-at-requires-2
+    attribute-address-requires-2
     shared-slice-read-name
-    attribute-at-requires-3
+    attribute-address-requires-3
     shared-slice-read-c
-    pattern-at-requires
+    sprite-pattern-address-requires
     shared-slice-read-left
     is-large-requires
     add-sprite-by

@@ -10,11 +10,11 @@ cast-vram c = search needs
 slice-write-vram : tie.Need-slice-write-vram
 slice-write-vram c = search needs
 
-cast-mark : tie.Need-cast-mark
-cast-mark c = search needs
+cast-set-dirty : tie.Need-cast-set-dirty
+cast-set-dirty c = search needs
 
-mark-requires : tie.Need-mark-requires
-mark-requires c κs = search needs
+set-dirty-requires : tie.Need-set-dirty-requires
+set-dirty-requires c κs = search needs
 
 with-waiting-requires : tie.Need-with-waiting-requires
 with-waiting-requires c κs = search needs
@@ -29,7 +29,7 @@ same-length-2 : tie.Need-same-length-2
 same-length-2 c = search needs
 
 returns : tie.Need-returns
-returns c = (simp (c .before .with-waiting .ensures, c .step .ensures), (refl, c .before .before .before .before .mark .ensures))
+returns c = (simp (c .before .with-waiting .ensures, c .step .ensures), (refl, c .before .before .before .before .set-dirty .ensures))
 
 pub take-data-byte-spec : {M : Type 1} → statement M
 take-data-byte-spec =
@@ -37,8 +37,8 @@ take-data-byte-spec =
     (tie.spec
     cast-vram
     slice-write-vram
-    cast-mark
-    mark-requires
+    cast-set-dirty
+    set-dirty-requires
     with-waiting-requires
     step-requires
     same-length
