@@ -20,6 +20,7 @@ pub use layout::holds_state;
 pub use layout::load;
 pub use lists::copy;
 pub use lists::fill;
+pub use lists::put;
 pub use map::is_dirty;
 pub use map::set_dirty;
 pub use mode::Mode;

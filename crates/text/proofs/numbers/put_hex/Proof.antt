@@ -1,7 +1,7 @@
 -- `put_hex` meets its contract.
 use borrow.Author.Needs.{needs}
-use Rattle.text.proofs.put.put_hex.Statement.{statement}
-use Rattle.text.proofs.put.put_hex.Tie as tie
+use Rattle.text.proofs.numbers.put_hex.Statement.{statement}
+use Rattle.text.proofs.numbers.put_hex.Tie as tie
 
 hex-digit-requires : tie.Need-hex-digit-requires
 hex-digit-requires c κs = search needs

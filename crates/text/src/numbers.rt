@@ -1,19 +1,10 @@
-// Characters put into a slice from a place on. Each answers the place behind them.
+// Numbers put into a slice from a place on, as characters. Each answers the place behind them.
 ghost use mathlib.Core.Path.{_≡_};
 ghost use Prim.Native.Nat.{_+_, _≤_, _<_};
 ghost use lib.ListN.{length};
-ghost use Rattle.snapshot.specs.Lists.{putAt};
+ghost use Rattle.chip.specs.Lists.{putAt};
 ghost use Rattle.text.specs.Numbers.{decimal, hexDigit, twoHex};
-
-pub fn put(out: &mut [u8], at: usize, bytes: &[u8]) -> usize
-    requires { ⌜ at + length (now bytes) ≤ length (now out) ⌝ }
-    ensures { λ r. ⌜ r ≡ at + length (now (bytes .entry)) ⌝ }
-    ensures { λ _. ⌜ now (out .exit) ≡ putAt at (now (bytes .entry)) (now (out .entry)) ⌝ }
-{
-    let end = at + bytes.len();
-    chip::copy(&mut out[at..end], bytes);
-    end
-}
+use chip::put;
 
 // The decimal digits of a number below 1,000.
 pub fn put_decimal(out: &mut [u8], at: usize, n: usize) -> usize

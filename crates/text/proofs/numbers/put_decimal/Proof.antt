@@ -3,8 +3,8 @@ use Prim.Native.Nat.{_≤_, _<_}
 use native.Mathlib.Omega.{arith}
 use Rattle.text.proofs.Laws.Numbers.{one-digit, two-digits, three-digits}
 use borrow.Author.Needs.{needs}
-use Rattle.text.proofs.put.put_decimal.Statement.{statement}
-use Rattle.text.proofs.put.put_decimal.Tie as tie
+use Rattle.text.proofs.numbers.put_decimal.Statement.{statement}
+use Rattle.text.proofs.numbers.put_decimal.Tie as tie
 
 cast-t8 : tie.Need-cast-t8
 cast-t8 c = search needs

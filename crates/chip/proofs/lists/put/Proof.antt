@@ -7,8 +7,8 @@ use lib.ListN.{length, take}
 use denote.Ref.{now}
 use borrow.Rule.Slice.PartMut.{post-is}
 use borrow.Author.Needs.{needs}
-use Rattle.snapshot.proofs.writing.put.Statement.{statement}
-use Rattle.snapshot.proofs.writing.put.Tie as tie
+use Rattle.chip.proofs.lists.put.Statement.{statement}
+use Rattle.chip.proofs.lists.put.Tie as tie
 
 add-end : tie.Need-add-end
 add-end c = search needs
@@ -30,9 +30,11 @@ same-length c = search needs
 
 returns : tie.Need-returns
 returns c =
-    let a = c .before .before .before .before .before .before .args in
-    rw (c .before .before .copy .ensures)
-    (ap (λ (l : List ℕ). take (a .at) (now (a .to)) ++ (now (a .bytes) ++ l)) (post-is (a .at) (a .at + length (now (a .bytes))) (now (a .to)) (le-add-right _ _)))
+    let a = c .before .before .before .before .before .before .args in (
+      search needs,
+      rw (c .before .before .copy .ensures)
+          (ap (λ (l : List ℕ). take (a .at) (now (a .to)) ++ (now (a .bytes) ++ l)) (post-is (a .at) (a .at + length (now (a .bytes))) (now (a .to)) (le-add-right _ _))),
+    )
 
 pub put-spec : {M : Type 1} → statement M
 put-spec =

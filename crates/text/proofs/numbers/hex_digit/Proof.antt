@@ -1,8 +1,8 @@
 -- `hex_digit` meets its contract.
 use borrow.Author.Tests.{lt-ltb, le-ltb}
 use borrow.Author.Needs.{needs}
-use Rattle.text.proofs.put.hex_digit.Statement.{statement}
-use Rattle.text.proofs.put.hex_digit.Tie as tie
+use Rattle.text.proofs.numbers.hex_digit.Statement.{statement}
+use Rattle.text.proofs.numbers.hex_digit.Tie as tie
 
 add-result : tie.Need-add-result
 add-result c = search needs
