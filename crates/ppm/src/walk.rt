@@ -42,8 +42,9 @@ pub fn start(file: &[u8], vram: &mut [u8]) -> Walk
             chip: chip,
         };
     }
+    let refused = number as u8;
     Walk {
-        next: Next::Refused(number as u8),
+        next: Next::Refused(refused),
         chip: chip,
     }
 }
@@ -73,9 +74,10 @@ fn put_line(walk: Walk, l: u8, vram: &[u8], out: &mut [u8]) -> Piece
         return nothing(walk);
     }
     paint(&line, out);
+    let below = l + 1;
     Piece {
         walk: Walk {
-            next: Next::Line(l + 1),
+            next: Next::Line(below),
             chip: chip,
         },
         written: 768,

@@ -41,8 +41,8 @@ slice-aggregate-paint c = search needs
 paint-requires : tie.Need-paint-requires
 paint-requires c κs = search needs
 
-add-t18 : tie.Need-add-t18
-add-t18 c =
+add-below : tie.Need-add-below
+add-below c =
     let n = c .before .before .before .before .before .before in
     let a = n .before .before .before .before .before .before .before .args in
     omega (arith, drawn-below (now (a .vram)) (a .walk) (a .l) (n .before .before .draw-line .ensures .0) (n .number .ensures) (c .before .before .before .before .before .if1 .left))
@@ -72,6 +72,6 @@ put-line-spec =
     returns
     slice-aggregate-paint
     paint-requires
-    add-t18
+    add-below
     same-length
     returns-2)

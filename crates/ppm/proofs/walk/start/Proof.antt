@@ -25,8 +25,8 @@ returns c =
     let a = r .before .before .before .before .before .args in
     (start-accepted (now (a .vram)) (now (a .file)) (rw (r .before .before .power-up-state .ensures) at (r .read .ensures .0)) (c .before .before .number .ensures) (c .if1 .taken), r .read .ensures .1)
 
-cast-t12 : tie.Need-cast-t12
-cast-t12 c = omega (arith, number-small (c .before .before .before .before .before .read .result .refusal), c .before .before .number .ensures)
+cast-refused : tie.Need-cast-refused
+cast-refused c = omega (arith, number-small (c .before .before .before .before .before .read .result .refusal), c .before .before .number .ensures)
 
 same-length-2 : tie.Need-same-length-2
 same-length-2 c = search needs
@@ -46,6 +46,6 @@ start-spec =
     number-requires
     same-length
     returns
-    cast-t12
+    cast-refused
     same-length-2
     returns-2)
