@@ -103,7 +103,7 @@ fn status_step(walk: Walk, vram: &[u8], out: &mut [u8]) -> Piece
     let chip = walk.chip;
     let registers = chip.registers;
     let after = status_drawn(registers, vram, chip.status);
-    let written = put_status(out, chip.status, after);
+    let end_of_status = put_status(out, chip.status, after);
     let mut range = [0u8; 256];
     draw_row(registers, vram, 0, &mut range);
     let next = Walk {
@@ -115,7 +115,7 @@ fn status_step(walk: Walk, vram: &[u8], out: &mut [u8]) -> Piece
     };
     Piece {
         walk: next,
-        written: written,
+        written: end_of_status,
         last: false,
     }
 }
@@ -146,7 +146,7 @@ fn line_step(walk: Walk, l: u8, vram: &[u8], out: &mut [u8]) -> Piece
             last: false,
         };
     }
-    let written = put_range(out, walk.first, walk.last, &range);
+    let end_of_range = put_range(out, walk.first, walk.last, &range);
     let next = Walk {
         next: after,
         chip: chip,
@@ -156,7 +156,7 @@ fn line_step(walk: Walk, l: u8, vram: &[u8], out: &mut [u8]) -> Piece
     };
     Piece {
         walk: next,
-        written: written,
+        written: end_of_range,
         last: false,
     }
 }
@@ -168,10 +168,10 @@ fn end_step(walk: Walk, out: &mut [u8]) -> Piece
     ensures { λ _. ⌜ now (out .exit) ≡ putAt 0 (walks.endStep walk .bytes) (now (out .entry)) ⌝ }
 {
     let range = walk.range;
-    let written = put_range(out, walk.first, walk.last, &range);
+    let end_of_last = put_range(out, walk.first, walk.last, &range);
     Piece {
         walk: walk,
-        written: written,
+        written: end_of_last,
         last: true,
     }
 }

@@ -1,7 +1,7 @@
 -- What a step does, by what is next and by the lengths of the slices.
 use Prim.Native.Nat.{ℕ, _+_, _-_, _≤_, _<_}
 use native.Mathlib.Omega.{arith}
-use mathlib.Core.Path.{_≡_, refl, sym, ap, _∙_}
+use mathlib.Core.Path.{_≡_, refl, sym, ap, subst⁻¹, _∙_}
 use mathlib.Core.Bool.{Bool, true, false, cond, _&&_}
 use mathlib.Core.List.{List}
 use lib.Dec.{eqb, ltb, leb}
@@ -26,6 +26,8 @@ use Rattle.text.specs.Walk.{firstNext, startWalk, pieceOf, going, rangeS
 use Rattle.text.specs.declared.walk.Next.{Next}
 use Rattle.text.specs.declared.walk.Next.the-variants.{Refused, Status, Line, End}
 use Rattle.text.specs.declared.walk.Walk.{Walk}
+use Rattle.text.specs.declared.walk.Piece.{Piece}
+use Rattle.text.proofs.Laws.Put.{put-fits}
 
 -- the answer, by how many bytes the step wrote
 pub piece : (s : Step Walk) {n : ℕ} → n ≡ length (s .bytes) → record { walk = s .walk; written = n; last = s .last } ≡ pieceOf s
@@ -138,3 +140,11 @@ module _ (vram : List ℕ) where
       by : (b : Bool) → cond b (stepAt vram (w .next) w) (writesNothing w) .last ≡ false → stepsLeft (cond b (stepAt vram (w .next) w) (writesNothing w) .walk) < stepsLeft w
       by true m = fewer-at (w .next) w m
       by false m = absurd (differ m)
+
+-- what the answer of `step` tells its caller
+module _ (vram : List ℕ) (w : Walk) (out : List ℕ) {p : Piece} (e : p ≡ pieceOf (stepOf vram w out)) where
+  pub falls : p .last ≡ false → stepsLeft (p .walk) < stepsLeft w
+  falls more = subst⁻¹ (λ (q : Piece). stepsLeft (q .walk) < stepsLeft w) e (fewer-left vram w out (sym (ap (λ (q : Piece). q .last) e) ∙ more))
+
+  pub fits : {out′ : List ℕ} → out′ ≡ putAt 0 (stepOf vram w out .bytes) out → length out′ ≡ length out → p .written ≤ length out
+  fits left kept = subst⁻¹ (λ (q : Piece). q .written ≤ length out) e (put-fits (stepOf vram w out .bytes) out left kept)
