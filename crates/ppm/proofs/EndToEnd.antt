@@ -7,30 +7,19 @@ use Prim.Native.Nat.{ℕ, zero, suc, _+_, _≤_}
 use native.Mathlib.Numerals.{add-one}
 use native.Mathlib.Omega.{arith}
 use mathlib.Core.Path.{_≡_, refl, sym, ap, _∙_}
-use mathlib.Core.Bool.{Bool, true, false, cond}
+use mathlib.Core.Bool.{Bool, true, cond}
 use mathlib.Core.List.{List, [], _++_, append-nil, append-assoc}
 use lib.ListN.{length}
 use borrow.Author.Tests.{eq-eqb, ne-eqb}
-use Rattle.chip.specs.State.{wellFormed, powerUpState}
-use Rattle.chip.specs.Ports.{clearedVram}
-use Rattle.chip.specs.Layout.{decoded}
-use Rattle.chip.specs.Refusals.{numberOf, isAccepted, ifAccepted}
+use Rattle.chip.specs.State.{wellFormed}
+use Rattle.chip.specs.Refusals.{numberOf}
 use Rattle.chip.specs.declared.state.Chip.{Chip}
-use Rattle.chip.specs.declared.refusal.Refusal.{Refusal}
-use Rattle.chip.specs.declared.refusal.Refusal.the-variants.{Accepted}
-use Rattle.chip.proofs.Laws.Refusals.{is-accepted, the-new}
 use Rattle.scanline.specs.Calls.{colours}
 use Rattle.frame.specs.Lines.{endToEnd}
-use Rattle.snapshot.specs.Tests.{stateBytes, vramBytes}
-use Rattle.snapshot.specs.Calls.{readRefusal, readSnapshot, readVram}
-use Rattle.snapshot.proofs.Laws.Refusals.{accepted-readable}
-use Rattle.snapshot.proofs.Laws.Accepted.{state-of}
-use Rattle.snapshot.proofs.Laws.Parts.{length-vram}
-use Rattle.text.specs.Lines.{refusedText}
-use Rattle.text.specs.Output.{outputOf}
-use Rattle.text.specs.Pieces.{Output, stepsFrom}
-use Rattle.text.proofs.Laws.Pieces.{last-step, more-steps}
-use Rattle.text.proofs.Laws.Reading.{same-refusal}
+use Rattle.snapshot.specs.Calls.{readVram}
+use Rattle.text.specs.Pieces.{stepsFrom}
+use Rattle.text.proofs.Laws.Pieces.{wholly, last-step, more-steps}
+use Rattle.text.proofs.Laws.Reading.{from-file}
 use Rattle.ppm.specs.declared.walk.Next.{Next}
 use Rattle.ppm.specs.declared.walk.Next.the-variants.{Refused, Header, Line}
 use Rattle.ppm.specs.declared.walk.Walk.{Walk}
@@ -38,10 +27,6 @@ use Rattle.ppm.specs.Picture.{painted, pictureOf, pictureOutput}
 use Rattle.ppm.specs.Walk.{firstNext, startWalk, stepOf}
 use Rattle.ppm.proofs.Laws.Paint.{painted-append}
 use Rattle.ppm.proofs.Laws.Steps.{step-fits, writesLine, line-accepted}
-
--- all of an output
-abbrev wholly : List ℕ → Output
-wholly bytes = record { bytes = bytes; whole = true }
 
 abbrev walkAt : Next → Chip → Walk
 walkAt next c = record { next = next; chip = c }
@@ -94,25 +79,8 @@ module _ (vram : List ℕ) (full : length vram ≡ 16384) (c : Chip) (ok : wellF
 pub end-to-end : (file vram : List ℕ) → length vram ≡ 16384
     → (slices : ℕ → List ℕ) → ((k : ℕ) → 768 ≤ length (slices k))
     → stepsFrom (stepOf (readVram vram file)) 193 (startWalk vram file) slices ≡ record { bytes = pictureOutput file; whole = true }
-unfolding outputOf
-end-to-end file vram full slices fits = by (isAccepted (readRefusal clearedVram file)) refl
-  where
-    by : (b : Bool) → isAccepted (readRefusal clearedVram file) ≡ b → stepsFrom (stepOf (readVram vram file)) 193 (startWalk vram file) slices ≡ wholly (pictureOutput file)
-    by true e =
-        let held : Chip = decoded (stateBytes file) true in
-        let ok : readRefusal clearedVram file ≡ Accepted = is-accepted (readRefusal clearedVram file) e in
-        let also : readRefusal vram file ≡ Accepted = same-refusal vram file full ∙ ok in
-        let r = accepted-readable vram file also in
-        let start : startWalk vram file ≡ walkAt Header held = ap (λ (q : Refusal). walkAt (firstNext q) (ifAccepted q held powerUpState)) also in
-        let left : readVram vram file ≡ vramBytes file = the-new also (vramBytes file) vram in
-        let shown : pictureOutput file ≡ pictureOf held (vramBytes file) = ap (λ (q : Refusal). ifAccepted q (pictureOf (ifAccepted q held powerUpState) (ifAccepted q (vramBytes file) clearedVram)) (refusedText (numberOf q))) ok in
-        (λ i. stepsFrom (stepOf (left i)) 193 (start i) slices)
-        ∙ picture-written (vramBytes file) (length-vram file (r .whole)) held (state-of (stateBytes file) (r .holds)) slices fits
-        ∙ ap wholly (sym shown)
-    by false e =
-        let n : ℕ = numberOf (readRefusal vram file) in
-        let refused : isAccepted (readRefusal vram file) ≡ false = ap isAccepted (same-refusal vram file full) ∙ e in
-        let first : firstNext (readRefusal vram file) ≡ Refused n = ap (λ (b : Bool). cond b Header (Refused n)) refused in
-        let shown : pictureOutput file ≡ refusedText n = ap (λ (b : Bool). cond b (pictureOf (readSnapshot powerUpState clearedVram file .chip) (readVram clearedVram file)) (refusedText (numberOf (readRefusal clearedVram file)))) e ∙ ap (λ (q : Refusal). refusedText (numberOf q)) (sym (same-refusal vram file full)) in
-        last-step (stepOf (readVram vram file)) 192 (startWalk vram file) slices (step-fits (readVram vram file) (startWalk vram file) (slices 0) (fits 0) first) refl
-        ∙ ap wholly (sym shown)
+end-to-end file vram full slices fits =
+    from-file stepOf (λ r c. walkAt (firstNext r) c) pictureOf 192 slices
+    (λ v whole c ok. picture-written v whole c ok slices fits)
+    (λ v r c e. step-fits v _ (slices 0) (fits 0) (ap (λ (b : Bool). cond b Header (Refused (numberOf r))) e))
+    file vram full

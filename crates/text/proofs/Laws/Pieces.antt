@@ -5,14 +5,18 @@ use mathlib.Core.Bool.{true, false}
 use mathlib.Core.List.{List, _++_, append-nil}
 use Rattle.text.specs.Pieces.{Step, Output, ahead, stepsFrom}
 
+-- all of an output
+abbrev pub wholly : List ℕ → Output
+wholly bytes = record { bytes = bytes; whole = true }
+
 module _ {W : Type 0} (step : W → List ℕ → Step W) (n : ℕ) (w : W) (slices : ℕ → List ℕ) {s : Step W} (e : step w (slices 0) ≡ s) where
   one-step : stepsFrom step (suc n) w slices ≡ ahead s (stepsFrom step n (s .walk) (λ k. slices (suc k)))
   unfolding stepsFrom
   one-step = ap (λ (t : Step W). ahead t (stepsFrom step n (t .walk) (λ k. slices (suc k)))) e
 
   -- the last piece
-  pub last-step : s .last ≡ true → stepsFrom step (suc n) w slices ≡ record { bytes = s .bytes; whole = true }
-  last-step l = one-step ∙ rw l (ap (λ (b : List ℕ). record { bytes = b; whole = true }) (append-nil (s .bytes)))
+  pub last-step : s .last ≡ true → stepsFrom step (suc n) w slices ≡ wholly (s .bytes)
+  last-step l = one-step ∙ rw l (ap wholly (append-nil (s .bytes)))
 
   -- a piece before others
   pub more-steps : {rest : Output} → s .last ≡ false → stepsFrom step n (s .walk) (λ k. slices (suc k)) ≡ rest → stepsFrom step (suc n) w slices ≡ record { bytes = s .bytes ++ rest .bytes; whole = rest .whole }

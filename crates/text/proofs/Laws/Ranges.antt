@@ -12,16 +12,13 @@ use Rattle.scanline.specs.Calls.{colours}
 use Rattle.text.specs.Runs.{runsAfter, same}
 use Rattle.text.specs.Lines.{rangeText, rangesText}
 use Rattle.text.specs.Show.{linesFrom}
-use Rattle.text.specs.Pieces.{Output, stepsFrom}
+use Rattle.text.specs.Pieces.{stepsFrom}
 use Rattle.text.specs.Walk.{drawable, nextAt, lineStepBy, lineStep, endStep, stepOf}
 use Rattle.text.specs.declared.walk.Next.{Next}
 use Rattle.text.specs.declared.walk.Next.the-variants.{Line, End}
 use Rattle.text.specs.declared.walk.Walk.{Walk}
-use Rattle.text.proofs.Laws.Pieces.{last-step, more-steps}
+use Rattle.text.proofs.Laws.Pieces.{wholly, last-step, more-steps}
 use Rattle.text.proofs.Laws.Steps.{step-line, step-end}
-
-abbrev pub wholly : List ℕ → Output
-wholly bytes = record { bytes = bytes; whole = true }
 
 -- A walk with a state.
 abbrev pub walkAt : Chip → Next → ℕ → ℕ → List ℕ → Walk
