@@ -3,21 +3,21 @@ use Prim.Native.Nat.{ℕ, suc, _+_, _*_, _≤_, _<_}
 use native.Mathlib.Numerals.{add-one}
 use native.Mathlib.Omega.{arith}
 use mathlib.Core.Path.{_≡_, refl, sym, ap, ap₂, _∙_}
-use mathlib.Core.Bool.{true}
 use mathlib.Core.List.{List, [], _∷_, _++_, append-assoc, append-nil}
-use lib.ListN.{length, getD, take, drop, set, length-append, length-drop, drop-of-length-le}
+use lib.ListN.{length, getD, take, drop, set, length-append, length-drop}
 use lib.Seq.{sets-eq, take-suc, take-all, take-at, drop-at, drop-drop, length-take-le}
-use Rattle.chip.specs.State.{wellFormed}
-use Rattle.chip.specs.declared.state.Chip.{Chip}
-use Rattle.scanline.specs.Calls.{colours, drawLineLine}
-use Rattle.text.proofs.Laws.Pieces.{line-drawn}
-use Rattle.picture.specs.Palette.{rgbOf}
-use Rattle.picture.specs.Picture.{painted}
+use Rattle.chip.specs.Lists.{putAt}
+use Rattle.ppm.specs.Palette.{rgbOf}
+use Rattle.ppm.specs.Picture.{painted}
+
+pub painted-append : (a b : List ℕ) → painted (a ++ b) ≡ painted a ++ painted b
+unfolding painted
+painted-append [] b = refl
+painted-append (c ∷ a) b = ap (λ (t : List ℕ). rgbOf c ++ t) (painted-append a b) ∙ sym (append-assoc (rgbOf c) (painted a) (painted b))
 
 painted-one-more : (l : List ℕ) (c : ℕ) → painted (l ++ (c ∷ [])) ≡ painted l ++ rgbOf c
 unfolding painted
-painted-one-more [] c = append-nil (rgbOf c)
-painted-one-more (d ∷ l) c = ap (λ (t : List ℕ). rgbOf d ++ t) (painted-one-more l c) ∙ sym (append-assoc (rgbOf d) (painted l) (rgbOf c))
+painted-one-more l c = painted-append l (c ∷ []) ∙ ap (λ (t : List ℕ). painted l ++ t) (append-nil (rgbOf c))
 
 pub length-painted : (l : List ℕ) → length (painted l) ≡ 3 * length l
 unfolding painted
@@ -38,7 +38,7 @@ pub painting-none : {colours out : List ℕ} → Painting colours out out 0
 unfolding painted
 painting-none = record { so-far = refl }
 
-module _ {colours out₀ : List ℕ} (room : length out₀ ≡ 3 * length colours) where
+module _ {colours out₀ : List ℕ} (room : 3 * length colours ≤ length out₀) where
   pub painting-long : {out : List ℕ} {x : ℕ} → x ≤ length colours → Painting colours out₀ out x → length out ≡ length out₀
   painting-long {out} {x} h g =
       let whole = ap length (g .so-far) ∙ length-append (painted (take x colours)) (drop (3 * x) out₀) in
@@ -68,13 +68,8 @@ module _ {colours out₀ : List ℕ} (room : length out₀ ≡ 3 * length colour
             ∙ ap (λ (s : List ℕ). s ++ drop (3 * (x + 1)) out₀) (sym more);
       }
 
-  pub painting-all : {out : List ℕ} {x : ℕ} → x ≡ length colours → Painting colours out₀ out x → out ≡ painted colours
+  pub painting-all : {out : List ℕ} {x : ℕ} → x ≡ length colours → Painting colours out₀ out x → out ≡ putAt 0 (painted colours) out₀
   painting-all {out} {x} h g =
-      let past : length out₀ ≤ 3 * x = omega arith in
-      g .so-far
-      ∙ ap₂ (λ (s t : List ℕ). painted s ++ t) (take-all x colours (omega arith)) (drop-of-length-le out₀ past)
-      ∙ append-nil (painted colours)
-
--- A line that is drawn and then painted.
-pub line-painted : {line out : List ℕ} (c : Chip) (vram given : List ℕ) (l : ℕ) → wellFormed c ≡ true → length vram ≡ 16384 → length given ≡ 256 → l < 192 → line ≡ drawLineLine c vram given l → out ≡ painted line → out ≡ painted (colours (c .registers) vram l)
-line-painted c vram given l ok full wide h drawn e = e ∙ ap painted (drawn ∙ line-drawn vram given full wide c ok l h)
+      let end = length-painted colours in
+      let at : 3 * x ≡ 0 + length (painted colours) = omega arith in
+      g .so-far ∙ ap₂ (λ (s : List ℕ) (k : ℕ). painted s ++ drop k out₀) (take-all x colours (omega arith)) at

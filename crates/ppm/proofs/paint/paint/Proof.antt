@@ -3,10 +3,10 @@ use Prim.Native.Nat.{_≤_, _-_}
 use mathlib.Core.Path.{_≡_, refl}
 use native.Mathlib.Omega.{arith}
 use lib.ListN.{length, length-set}
-use Rattle.picture.proofs.Laws.Paint.{Painting, painting-none, painting-long, painting-more, painting-all}
+use Rattle.ppm.proofs.Laws.Paint.{Painting, painting-none, painting-long, painting-more, painting-all}
 use borrow.Author.Needs.{needs}
-use Rattle.picture.proofs.paint.Statement.{statement}
-use Rattle.picture.proofs.paint.Tie as tie
+use Rattle.ppm.proofs.paint.paint.Statement.{statement}
+use Rattle.ppm.proofs.paint.paint.Tie as tie
 
 abbrev Inv-loop : tie.InvT-loop
 Inv-loop colours out₀ x₀ out x = (x ≤ length colours) × (length out ≡ length out₀) × Painting colours out₀ out x
