@@ -3,7 +3,6 @@ mod paint;
 mod palette;
 mod walk;
 
-pub use walk::Next;
 pub use walk::Piece;
 pub use walk::Walk;
 pub use walk::start;
