@@ -27,8 +27,8 @@ pub struct Piece {
     pub last: bool,
 }
 
-// Reads a snapshot into VRAM.
-pub fn start(file: &[u8], vram: &mut [u8]) -> Walk
+// Reads a snapshot into VRAM, which has its length by type: no program can lend another.
+pub fn start(file: &[u8], vram: &mut [u8; 16384]) -> Walk
     ensures { λ r. ⌜ r ≡ startWalk (now (vram .entry)) (now (file .entry)) ⌝ }
     ensures { λ _. ⌜ now (vram .exit) ≡ readVram (now (vram .entry)) (now (file .entry)) ⌝ }
 {
@@ -61,7 +61,7 @@ fn nothing(walk: Walk) -> Piece
 }
 
 // Line l, if it can be drawn.
-fn put_line(walk: Walk, l: u8, vram: &[u8], out: &mut [u8]) -> Piece
+fn put_line(walk: Walk, l: u8, vram: &[u8; 16384], out: &mut [u8]) -> Piece
     requires { ⌜ 768 ≤ length (now out) ⌝ }
     ensures { λ r. ⌜ r ≡ pieceOf (lineStep (now (vram .entry)) walk l) ⌝ }
     ensures { λ _. ⌜ now (out .exit) ≡ putAt 0 (lineStep (now (vram .entry)) walk l .bytes) (now (out .entry)) ⌝ }
@@ -86,7 +86,7 @@ fn put_line(walk: Walk, l: u8, vram: &[u8], out: &mut [u8]) -> Piece
 }
 
 // Writes the next piece at the front of a slice of at least 768 bytes.
-pub fn step(walk: Walk, vram: &[u8], out: &mut [u8]) -> Piece
+pub fn step(walk: Walk, vram: &[u8; 16384], out: &mut [u8]) -> Piece
     ensures { λ r. ⌜ r ≡ pieceOf (stepOf (now (vram .entry)) walk (now (out .entry))) ⌝ }
     ensures { λ _. ⌜ now (out .exit) ≡ putAt 0 (stepOf (now (vram .entry)) walk (now (out .entry)) .bytes) (now (out .entry)) ⌝ }
 {

@@ -16,25 +16,19 @@ read-requires c κs = search needs
 number-requires : tie.Need-number-requires
 number-requires c κs = search needs
 
-same-length : tie.Need-same-length
-same-length c = search needs
-
 returns : tie.Need-returns
 returns c =
-    let r = c .before .before .before .before .before in
-    let a = r .before .before .before .before .before .args in
+    let r = c .before .before .before in
+    let a = r .before .before .before .before .args in
     (start-accepted (now (a .vram)) (now (a .file)) (rw (r .before .before .power-up-state .ensures) at (r .read .ensures .0)) (c .before .before .number .ensures) (c .if1 .taken), r .read .ensures .1)
 
 cast-refused : tie.Need-cast-refused
-cast-refused c = omega (arith, number-small (c .before .before .before .before .before .read .result .refusal), c .before .before .number .ensures)
-
-same-length-2 : tie.Need-same-length-2
-same-length-2 c = search needs
+cast-refused c = omega (arith, number-small (c .before .before .before .read .result .refusal), c .before .before .number .ensures)
 
 returns-2 : tie.Need-returns-2
 returns-2 c =
-    let r = c .before .before .before .before .before in
-    let a = r .before .before .before .before .before .args in
+    let r = c .before .before .before in
+    let a = r .before .before .before .before .args in
     (start-refused (now (a .vram)) (now (a .file)) (rw (r .before .before .power-up-state .ensures) at (r .read .ensures .0)) (c .before .before .number .ensures) (c .if1 .left), r .read .ensures .1)
 
 pub start-spec : {M : Type 1} → statement M
@@ -44,8 +38,6 @@ start-spec =
     power-up-state-requires
     read-requires
     number-requires
-    same-length
     returns
     cast-refused
-    same-length-2
     returns-2)

@@ -45,7 +45,7 @@ same-length c = search needs
 returns-2 : tie.Need-returns-2
 returns-2 c =
     let m = c .before .before .before .before .before in
-    let s = m .before .before .before .before .before .before in
+    let s = m .before .before .before .before .before in
     let out = now (s .args .out) in
     let h : 768 ≤ length out = omega arith in
     let p = rw (refused-fits _ out (omega arith)) at (c .before .before .refusal-line .ensures) in
@@ -57,7 +57,7 @@ same-length-2 c = search needs
 returns-3 : tie.Need-returns-3
 returns-3 c =
     let m = c .before .before .before .before .before .before .before in
-    let s = m .before .before .before .before .before .before in
+    let s = m .before .before .before .before .before in
     let out = now (s .args .out) in
     let h : 768 ≤ length out = omega arith in
     let p = c .before .before .put .ensures in
@@ -69,7 +69,7 @@ same-length-3 c = search needs
 returns-4 : tie.Need-returns-4
 returns-4 c =
     let m = c .before .before .before .before .before in
-    let s = m .before .before .before .before .before .before in
+    let s = m .before .before .before .before .before in
     let out = now (s .args .out) in
     let h : 768 ≤ length out = omega arith in
     rw (step-fits (now (s .args .vram)) (s .args .walk) out h (m .next2 .given .1)) (c .before .before .put-line .ensures)
