@@ -1,6 +1,6 @@
 // A range of equal neighbouring lines.
 ghost use mathlib.Core.Path.{_≡_};
-ghost use Prim.Native.Nat.{_≤_, _+_};
+ghost use Prim.Native.Nat.{_≤_};
 ghost use lib.ListN.{length};
 ghost use Rattle.chip.specs.Lists.{putAt};
 ghost use Rattle.text.specs.Runs as join;

@@ -3,7 +3,7 @@ use Prim.Native.Nat.{ℕ, zero, suc, _+_, _-_, _≤_}
 use native.Mathlib.Omega.{arith}
 use mathlib.Core.Path.{_≡_, refl, sym, ap, _∙_}
 use mathlib.Core.Bool.{Bool, true, false, cond}
-use mathlib.Core.List.{List, [], _∷_, _++_, append-nil}
+use mathlib.Core.List.{List, _∷_, append-nil}
 use lib.ListN.{length}
 use borrow.Author.Tests.{eq-eqb, lt-ltb, le-ltb}
 use Rattle.chip.specs.State.{wellFormed}
@@ -13,7 +13,7 @@ use Rattle.text.specs.Runs.{runsAfter, same}
 use Rattle.text.specs.Lines.{rangeText, rangesText}
 use Rattle.text.specs.Show.{linesFrom}
 use Rattle.text.specs.Pieces.{stepsFrom}
-use Rattle.text.specs.Walk.{drawable, nextAt, lineStepBy, lineStep, endStep, stepOf}
+use Rattle.text.specs.Walk.{drawable, nextAt, lineStepBy, lineStep, stepOf}
 use Rattle.text.specs.declared.walk.Next.{Next}
 use Rattle.text.specs.declared.walk.Next.the-variants.{Line, End}
 use Rattle.text.specs.declared.walk.Walk.{Walk}

@@ -6,7 +6,7 @@ use mathlib.Core.Bool.{Bool, true, false, cond, _&&_}
 use mathlib.Core.List.{List}
 use lib.Dec.{eqb, ltb, leb}
 use lib.ListN.{length, replicate}
-use borrow.Author.Tests.{le-leb, lt-leb, ltb-true, ltb-false, leb-true, eqb-true}
+use borrow.Author.Tests.{le-leb, lt-leb, ltb-true, leb-true, eqb-true}
 use Rattle.chip.specs.Lists.{putAt}
 use Rattle.chip.specs.State.{masked, wellFormed, powerUpState}
 use Rattle.chip.specs.Refusals.{numberOf}
