@@ -9,15 +9,15 @@ use crate::paint::paint;
 use chip::Chip;
 
 // What is written next: the line that tells a refusal, the header, or a line of the picture.
-pub enum Next {
+enum Next {
     Refused(u8),
     Header,
     Line(u8),
 }
 
 pub struct Walk {
-    pub next: Next,
-    pub chip: Chip,
+    next: Next,
+    chip: Chip,
 }
 
 // What a step answers: the walk behind the piece, how many bytes it has, and whether it is the last.
@@ -27,7 +27,7 @@ pub struct Piece {
     pub last: bool,
 }
 
-// Reads a snapshot into VRAM, which has its length by type: no program can lend another.
+// Reads the file as a snapshot into VRAM, which has its length by type: no program can lend another.
 pub fn start(file: &[u8], vram: &mut [u8; 16384]) -> Walk
     ensures { λ r. ⌜ r ≡ startWalk (now (vram .entry)) (now (file .entry)) ⌝ }
     ensures { λ _. ⌜ now (vram .exit) ≡ readVram (now (vram .entry)) (now (file .entry)) ⌝ }

@@ -50,8 +50,8 @@ fn first_next(number: u32) -> Next
     }
 }
 
-// Reads the file as a snapshot into VRAM.
-pub fn start(file: &[u8], vram: &mut [u8]) -> Walk
+// Reads the file as a snapshot into VRAM, which has its length by type: no program can lend another.
+pub fn start(file: &[u8], vram: &mut [u8; 16384]) -> Walk
     ensures { λ w. ⌜ w ≡ walks.startWalk (now (vram .entry)) (now (file .entry)) ⌝ }
     ensures { λ _. ⌜ now (vram .exit) ≡ readVram (now (vram .entry)) (now (file .entry)) ⌝ }
 {
@@ -191,7 +191,7 @@ fn refused_step(walk: Walk, number: u8, out: &mut [u8]) -> Piece
 }
 
 // Writes the next piece at the front of an output slice of at least 2,048 bytes.
-pub fn step(walk: Walk, vram: &[u8], out: &mut [u8]) -> Piece
+pub fn step(walk: Walk, vram: &[u8; 16384], out: &mut [u8]) -> Piece
     ensures { λ r. ⌜ r ≡ walks.pieceOf (walks.stepOf (now (vram .entry)) walk (now (out .entry))) ⌝ }
     ensures { λ _. ⌜ now (out .exit) ≡ putAt 0 (walks.stepOf (now (vram .entry)) walk (now (out .entry)) .bytes) (now (out .entry)) ⌝ }
 {

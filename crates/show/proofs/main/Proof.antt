@@ -25,9 +25,6 @@ array-share-prefix-file c = search needs
 slice-aggregate-start : tie.Need-slice-aggregate-start Inv-loop μ-loop
 slice-aggregate-start c = sym (length-take-le _ _ (omega arith))
 
-slice-aggregate-start-2 : tie.Need-slice-aggregate-start-2 Inv-loop μ-loop
-slice-aggregate-start-2 c = search needs
-
 start-requires : tie.Need-start-requires Inv-loop μ-loop
 start-requires c κs = search needs
 
@@ -37,9 +34,6 @@ loop-holds c = search needs
 slice-aggregate-step : tie.Need-slice-aggregate-step Inv-loop μ-loop
 slice-aggregate-step c = search needs
 
-slice-aggregate-step-2 : tie.Need-slice-aggregate-step-2 Inv-loop μ-loop
-slice-aggregate-step-2 c = search needs
-
 step-requires : tie.Need-step-requires Inv-loop μ-loop
 step-requires c κs = search needs
 
@@ -48,7 +42,7 @@ room : (s : tie.After-step Inv-loop μ-loop) → s .step .result .written ≤ le
 room s =
     let l = s .before .before .before in
     let kept = s .step .kept .1 .1 .0 in
-    omega (arith, kept, fits (l .before .before .start .last .1 .0) (l .loop .walk) (l .loop .out) (s .step .ensures .0) (s .step .ensures .1) kept)
+    omega (arith, kept, fits (l .before .start .last .1 .0) (l .loop .walk) (l .loop .out) (s .step .ensures .0) (s .step .ensures .1) kept)
 
 array-share-prefix-out : tie.Need-array-share-prefix-out Inv-loop μ-loop
 array-share-prefix-out c = room (c .before)
@@ -66,7 +60,7 @@ loop-less : tie.Need-loop-less Inv-loop μ-loop
 loop-less c =
     let s = c .before .before .before .before .before in
     let l = s .before .before .before in
-    falls (l .before .before .start .last .1 .0) (l .loop .walk) (l .loop .out) (s .step .ensures .0) (c .before .if1 .left)
+    falls (l .before .start .last .1 .0) (l .loop .walk) (l .loop .out) (s .step .ensures .0) (c .before .if1 .left)
 
 loop-again : tie.Need-loop-again Inv-loop μ-loop
 loop-again c =
@@ -82,11 +76,9 @@ main-spec =
     read-requires
     array-share-prefix-file
     slice-aggregate-start
-    slice-aggregate-start-2
     start-requires
     loop-holds
     slice-aggregate-step
-    slice-aggregate-step-2
     step-requires
     array-share-prefix-out
     slice-aggregate-write-all

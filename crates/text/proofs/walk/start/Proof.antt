@@ -20,16 +20,13 @@ number-requires : tie.Need-number-requires
 number-requires c κs = search needs
 
 first-next-requires : tie.Need-first-next-requires
-first-next-requires c κs = omega (arith, number-small (c .before .before .before .read .result .refusal), c .number .ensures)
-
-same-length : tie.Need-same-length
-same-length c = search needs
+first-next-requires c κs = omega (arith, number-small (c .before .read .result .refusal), c .number .ensures)
 
 returns : tie.Need-returns
 returns c =
     let n = c .before .before in
-    let r = n .before .before .before in
-    let a = r .before .before .before .before .before .args in
+    let r = n .before in
+    let a = r .before .before .before .before .args in
     let e : r .read .result ≡ readSnapshot powerUpState (now (a .vram)) (now (a .file)) = rw (r .before .before .power-up-state .ensures) at (r .read .ensures .0) in
     (started (now (a .vram)) (now (a .file)) e (n .number .ensures) (c .before .first-next .ensures), r .read .ensures .1)
 
@@ -41,5 +38,4 @@ start-spec =
     read-requires
     number-requires
     first-next-requires
-    same-length
     returns)

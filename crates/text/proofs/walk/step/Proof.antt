@@ -9,14 +9,14 @@ use Rattle.text.proofs.walk.step.Tie as tie
 
 -- the function's entry, seen from where the output slice has room
 abbrev Begun : tie.Else1 → tie.Start
-Begun e = e .before .before .before
+Begun e = e .before .before
 
 nothing-requires : tie.Need-nothing-requires
 nothing-requires c κs = search needs
 
 returns : tie.Need-returns
 returns c =
-    let a = c .before .before .before .before .args in
+    let a = c .before .before .before .args in
     rw (step-short (now (a .vram)) (a .walk) (now (a .out)) (c .before .if1 .taken)) (c .nothing .ensures, refl)
 
 enum-known-next : tie.Need-enum-known-next
@@ -33,9 +33,9 @@ drawable-requires c κs = search needs
 
 status-step-requires : tie.Need-status-step-requires
 status-step-requires c κs =
-    let e = c .before .before .before .before .before .before in
+    let e = c .before .before .before .before .before .before .before .before in
     let a = Begun e .args in
-    let can = draws (a .walk .chip) (now (a .vram)) (sym (c .before .before .drawable .ensures) ∙ c .before .if2 .taken) in
+    let can = draws (a .walk .chip) (now (a .vram)) (sym (c .before .before .before .drawable .ensures) ∙ c .before .before .if2 .taken) in
     (can .0, can .1, e .if1 .left)
 
 nothing-requires-2 : tie.Need-nothing-requires-2
@@ -58,10 +58,10 @@ drawable-requires-2 c κs = search needs
 
 line-step-requires : tie.Need-line-step-requires
 line-step-requires c κs =
-    let e = c .before .before .before .before .before .before .before .before in
+    let e = c .before .before .before .before .before .before .before .before .before .before in
     let a = Begun e .args in
-    let can = draws (a .walk .chip) (now (a .vram)) (sym (c .before .before .drawable2 .ensures) ∙ c .before .if4 .taken) in
-    (can .0, can .1, omega (arith, c .before .before .before .if3 .left), e .if1 .left)
+    let can = draws (a .walk .chip) (now (a .vram)) (sym (c .before .before .before .drawable2 .ensures) ∙ c .before .before .if4 .taken) in
+    (can .0, can .1, omega (arith, c .before .before .before .before .before .if3 .left), e .if1 .left)
 
 nothing-requires-4 : tie.Need-nothing-requires-4
 nothing-requires-4 c κs = search needs
@@ -88,17 +88,17 @@ same-length-2 c = search needs
 returns-4 : tie.Need-returns-4
 returns-4 c =
     let s = c .before .before in
-    let d = s .before .before .before in
-    let e = d .before .before .before .before in
+    let d = s .before .before .before .before in
+    let e = d .before .before .before .before .before in
     let a = Begun e .args in
-    rw (step-status (now (a .vram)) (a .walk) (now (a .out)) (e .if1 .left) (d .before .enum-told .given .1) (sym (d .drawable .ensures) ∙ s .before .before .if2 .taken)) (s .status-step .ensures)
+    rw (step-status (now (a .vram)) (a .walk) (now (a .out)) (e .if1 .left) (d .before .before .enum-told .given .1) (sym (d .drawable .ensures) ∙ s .before .before .before .if2 .taken)) (s .status-step .ensures)
 
 returns-5 : tie.Need-returns-5
 returns-5 c =
     let d = c .before .before in
-    let e = d .before .before .before .before in
+    let e = d .before .before .before .before .before in
     let a = Begun e .args in
-    rw (no-status (now (a .vram)) (a .walk) (now (a .out)) (e .if1 .left) (d .before .enum-told .given .1) (sym (d .drawable .ensures) ∙ c .before .if2 .left)) (c .nothing2 .ensures, refl)
+    rw (no-status (now (a .vram)) (a .walk) (now (a .out)) (e .if1 .left) (d .before .before .enum-told .given .1) (sym (d .drawable .ensures) ∙ c .before .if2 .left)) (c .nothing2 .ensures, refl)
 
 same-length-3 : tie.Need-same-length-3
 same-length-3 c = search needs
@@ -106,17 +106,17 @@ same-length-3 c = search needs
 returns-6 : tie.Need-returns-6
 returns-6 c =
     let s = c .before .before in
-    let d = s .before .before .before in
-    let e = d .before .before .before .before .before .before in
+    let d = s .before .before .before .before in
+    let e = d .before .before .before .before .before .before .before in
     let a = Begun e .args in
-    rw (step-line (now (a .vram)) (a .walk) (now (a .out)) (e .if1 .left) (d .before .before .before .next2 .given .1) (omega (arith, d .before .if3 .left)) (sym (d .drawable2 .ensures) ∙ s .before .before .if4 .taken)) (s .line-step .ensures)
+    rw (step-line (now (a .vram)) (a .walk) (now (a .out)) (e .if1 .left) (d .before .before .before .before .next2 .given .1) (omega (arith, d .before .before .if3 .left)) (sym (d .drawable2 .ensures) ∙ s .before .before .before .if4 .taken)) (s .line-step .ensures)
 
 returns-7 : tie.Need-returns-7
 returns-7 c =
     let d = c .before .before in
-    let e = d .before .before .before .before .before .before in
+    let e = d .before .before .before .before .before .before .before in
     let a = Begun e .args in
-    rw (no-line (now (a .vram)) (a .walk) (now (a .out)) (e .if1 .left) (d .before .before .before .next2 .given .1) (omega (arith, d .before .if3 .left)) (sym (d .drawable2 .ensures) ∙ c .before .if4 .left)) (c .nothing4 .ensures, refl)
+    rw (no-line (now (a .vram)) (a .walk) (now (a .out)) (e .if1 .left) (d .before .before .before .before .next2 .given .1) (omega (arith, d .before .before .if3 .left)) (sym (d .drawable2 .ensures) ∙ c .before .if4 .left)) (c .nothing4 .ensures, refl)
 
 same-length-4 : tie.Need-same-length-4
 same-length-4 c = search needs
