@@ -39,6 +39,7 @@ pub struct Piece {
     pub last: bool,
 }
 
+// What is first, by the number of the file's refusal.
 fn first_next(number: u32) -> Next
     requires { ⌜ number < 256 ⌝ }
     ensures { λ n. ⌜ n ≡ walks.firstNext number ⌝ }
