@@ -29,7 +29,7 @@ module _ (line : ℕ → List ℕ) (note : ℕ → ℕ) (is : ℕ → Bool) (wid
     pub prefix-long : length (endToEnd l line) ≡ 256 * l
     prefix-long = length-end line l (λ k below. wide k (omega arith))
 
-    pub redrawn-more : (part : List ℕ) (n : ℕ) (b : Bool) → part ≡ line l → n ≡ note l → b ≡ is l → Redrawn line note is frame₀ notes₀ (take (256 * l) frame ++ (part ++ drop 256 (drop (256 * l) frame))) (set notes l n) (count + boolByte b) (l + 1)
+    redrawn-more : (part : List ℕ) (n : ℕ) (b : Bool) → part ≡ line l → n ≡ note l → b ≡ is l → Redrawn line note is frame₀ notes₀ (take (256 * l) frame ++ (part ++ drop 256 (drop (256 * l) frame))) (set notes l n) (count + boolByte b) (l + 1)
     redrawn-more part n b ep en eb =
         record {
           lines = line-stored line frame₀ frame l prefix-long (g .lines) part ep;
@@ -40,7 +40,7 @@ module _ (line : ℕ → List ℕ) (note : ℕ → ℕ) (is : ℕ → Bool) (wid
         }
 
   -- the frame keeps its length
-  pub redrawn-long : {frame₀ notes₀ frame notes : List ℕ} {count l : ℕ} → l ≤ 192 → length frame₀ ≡ 49152 → Redrawn line note is frame₀ notes₀ frame notes count l → length frame ≡ 49152
+  redrawn-long : {frame₀ notes₀ frame notes : List ℕ} {count l : ℕ} → l ≤ 192 → length frame₀ ≡ 49152 → Redrawn line note is frame₀ notes₀ frame notes count l → length frame ≡ 49152
   redrawn-long {frame₀} {notes₀} {frame} {notes} {count} {l} h e g =
       let front = length-end line l (λ k below. wide k (omega arith)) in
       let back = length-drop (256 * l) frame₀ in

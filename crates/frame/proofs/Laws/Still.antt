@@ -18,7 +18,7 @@ use Rattle.fetches.specs.Fetch.{fetched, anyDirty}
 use Rattle.scanline.specs.Line.{lineOf}
 use Rattle.scanline.specs.Calls.{noteAt, colours}
 use Rattle.frame.specs.Lines.{endToEnd, lineAt, countBelow}
-use Rattle.frame.specs.Due.{due, newLine, newNote, newFrame, newNotes, dueCount}
+use Rattle.frame.specs.Due.{due, newLine, newFrame, newNotes, dueCount}
 use Rattle.frame.proofs.Laws.Lines.{end-same}
 
 -- two bytes that join to 0
