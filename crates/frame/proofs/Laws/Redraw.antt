@@ -50,8 +50,8 @@ module _ (line : ℕ → List ℕ) (note : ℕ → ℕ) (is : ℕ → Bool) (wid
 
   -- One line more, lent as a part of the frame of width w.
   module _ {frame₀ notes₀ frame notes : List ℕ} {count l : ℕ} (h : l < 192) (e : length frame₀ ≡ 49152) (g : Redrawn line note is frame₀ notes₀ frame notes count l) where
-    pub redrawn-turn : {part : List ℕ} {n : ℕ} {b : Bool} {w : ℕ} → w ≡ 256 → part ≡ line l → n ≡ note l → b ≡ is l → (length (take (256 * l) frame ++ (part ++ drop w (drop (256 * l) frame))) ≡ 49152) × Redrawn line note is frame₀ notes₀ (take (256 * l) frame ++ (part ++ drop w (drop (256 * l) frame))) (set notes l n) (count + boolByte b) (l + 1)
-    redrawn-turn {part} {n} {b} ew ep en eb =
+    pub redrawn-line : {part : List ℕ} {n : ℕ} {b : Bool} {w : ℕ} → w ≡ 256 → part ≡ line l → n ≡ note l → b ≡ is l → (length (take (256 * l) frame ++ (part ++ drop w (drop (256 * l) frame))) ≡ 49152) × Redrawn line note is frame₀ notes₀ (take (256 * l) frame ++ (part ++ drop w (drop (256 * l) frame))) (set notes l n) (count + boolByte b) (l + 1)
+    redrawn-line {part} {n} {b} ew ep en eb =
         let more = redrawn-more h g part n b ep en eb in
         rw ew (redrawn-long (omega arith) e more, more)
 
