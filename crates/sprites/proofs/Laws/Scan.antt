@@ -60,7 +60,7 @@ module _ (r : List ℕ) (l : ℕ) (vram : List ℕ) where
 abbrev pub after : List Sprite → Found → Found
 after s f = record { sprites = s ++ f .sprites; ended = f .ended }
 
-pub after-one : (a : List Sprite) (s : Sprite) (f : Found) → after (a ++ (s ∷ [])) f ≡ after a (found s f)
+after-one : (a : List Sprite) (s : Sprite) (f : Found) → after (a ++ (s ∷ [])) f ≡ after a (found s f)
 after-one a s f = λ i. record { sprites = append-assoc a (s ∷ []) (f .sprites) i; ended = f .ended }
 
 -- one sprite more in the array
