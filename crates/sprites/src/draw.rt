@@ -32,8 +32,9 @@ pub fn draw_sprites(line: &mut [u8], r: [u8; 8], scan: Scan) -> bool
     while 0 < k {
         k -= 1;
         let s = sprites[k];
+        let colour = s.colour;
         met = add_hits(&mut hit, r, s) | met;
-        paint_sprite(line, r, s, s.colour);
+        paint_sprite(line, r, s, colour);
     }
     met
 }

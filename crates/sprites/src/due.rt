@@ -11,6 +11,7 @@ ghost use Rattle.sprites.specs.Scan as scan;
 ghost use Rattle.sprites.specs.Shape as shape;
 use crate::shape::covers;
 use crate::shape::is_large;
+use crate::shape::is_terminator;
 use crate::sprite::attribute_address;
 use crate::sprite::sprite_pattern_address;
 use chip::is_dirty;
@@ -54,10 +55,11 @@ pub fn scan_dirty(r: [u8; 8], vram: &[u8], map: &[u8], l: u8) -> bool
             return true;
         }
         let y = vram[at];
-        if y == 208 {
+        let covering = covers(r, l, y);
+        if is_terminator(y) {
             return false;
         }
-        if !covers(r, l, y) {
+        if !covering {
             n += 1;
             continue;
         }
