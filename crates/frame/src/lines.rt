@@ -54,7 +54,7 @@ fn redraw_line(
     }
 }
 
-// Whether the map is clear. It joins all bytes and leaves at none, so that many can be joined at once.
+// Whether the map is clear. There is no early exit, so that many bytes can be joined at once.
 fn is_clear(map: &[u8]) -> bool
     ensures { λ b. ⌜ b ≡ due.isClear (now (map .entry)) ⌝ }
 {
@@ -67,7 +67,7 @@ fn is_clear(map: &[u8]) -> bool
     joined == 0
 }
 
-// Redraws the due lines, and counts them. With redraw mark and map clear none is due, and no line is asked.
+// Redraws the due lines, and counts them. With redraw mark and map clear none is due, and no line is looked at.
 pub fn redraw_lines(
     redraw: bool,
     r: [u8; 8],

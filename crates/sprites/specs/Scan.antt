@@ -13,8 +13,8 @@ use Rattle.sprites.specs.declared.scan.Ended.{Ended}
 use Rattle.sprites.specs.declared.scan.Ended.the-variants.{Terminator, Fifth, All}
 use Rattle.sprites.specs.declared.sprite.Sprite.{Sprite}
 
--- Attribute k of sprite n (Y, X, name, colour byte). The sprites' two tables begin at the same place in every mode: any that
--- has sprites will do.
+-- Attribute k of sprite n (Y, X, name, colour byte). The sprites' two tables begin at the same place in every mode, so that
+-- any mode with sprites can stand here.
 abbrev pub attributeAddress : List ℕ → ℕ → ℕ → ℕ
 attributeAddress r n k = base GraphicsI attributes r + (4 * n + k)
 

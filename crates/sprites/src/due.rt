@@ -42,7 +42,7 @@ fn sprite_dirty(r: [u8; 8], vram: &[u8], map: &[u8], l: u8, y: u8, n: usize) -> 
         | (is_dirty(map, name_at) | (is_dirty(map, colour_at) | pattern_dirty(r, map, at)))
 }
 
-// Of the scan of line l. It goes as the scan goes.
+// Of the scan of line l. It looks at the same sprites as the scan does.
 pub fn scan_dirty(r: [u8; 8], vram: &[u8], map: &[u8], l: u8) -> bool
     requires { ⌜ (masked r ≡ true) × (length (now vram) ≡ 16384) × (length (now map) ≡ 2048) ⌝ }
     ensures { λ b. ⌜ b ≡ anyDirty (now (map .entry)) (fetched (scan.scanOf r l) (now (vram .entry))) ⌝ }

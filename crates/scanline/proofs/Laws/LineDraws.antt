@@ -36,7 +36,7 @@ one-line-more s f n = ap (statusThrough s) (one-more n f) ∙ one-note-more s (t
 abbrev pub noted : ℕ → Chip → List ℕ → Chip
 noted n c vram = withStatus (statusThrough (c .status) (tabulate n (noteAt (c .registers) vram))) c
 
--- well-formedness asks nothing of status
+-- well-formedness does not depend on status
 still-formed : (s : ℕ) (c : Chip) → wellFormed c ≡ true → wellFormed (withStatus s c) ≡ true
 unfolding wellFormed
 still-formed s c ok = ok

@@ -15,7 +15,7 @@ module _ (r : List ℕ) (l : ℕ) (m : List ℕ) where
   abbrev Small : Fetch Found → Type 0
   Small d = fifthOf (value d m .ended) ≤ 32
 
-  -- whichever way sprite n goes
+  -- in each case of sprite n
   ways : (a b c : Bool) (n k y : ℕ) (next : ℕ → Fetch Found) → n ≤ 32 → ((j : ℕ) → Small (next j)) → Small (cond a (answer (record { sprites = []; ended = Terminator })) (cond b (cond c (answer (record { sprites = []; ended = Fifth n })) (followed (spriteOf r l n y) λ s. followed (next (suc k)) λ f. answer (found s f))) (next k)))
   unfolding value
   ways true b c n k y next h s = omega arith

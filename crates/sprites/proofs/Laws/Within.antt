@@ -30,7 +30,7 @@ module _ (r : List ℕ) (ok : masked r ≡ true) (l : ℕ) where
     ),
   )
 
-  -- whichever way sprite n goes
+  -- in each case of sprite n
   seen-within : (n k y : ℕ) (next : ℕ → Fetch Found) → n < 32 → ((j : ℕ) → Within vramSize (next j)) → Within vramSize (seen r l n k y next)
   unfolding Within
   seen-within n k y next hn w =

@@ -12,12 +12,12 @@ use Rattle.fetches.specs.Fetch.{fetched, anyDirty}
 use Rattle.sprites.specs.Scan.{attributeAddress, scanOf}
 use Rattle.sprites.specs.Shape as shape
 use Rattle.sprites.proofs.Laws.Bounds.{attribute-inside}
-use Rattle.sprites.proofs.Laws.Due.{rest, at-end, y-dirty, at-terminator, not-covering, at-fifth, drawn}
+use Rattle.sprites.proofs.Laws.Due.{restDirty, at-end, y-dirty, at-terminator, not-covering, at-fifth, drawn}
 use Rattle.sprites.proofs.due.scan_dirty.Statement.{statement}
 use Rattle.sprites.proofs.due.scan_dirty.Tie as tie
 
 abbrev Inv-loop : tie.InvT-loop
-Inv-loop r vram map l drawn₀ n₀ drawn n = (n ≤ 32) × (drawn ≤ 4) × (rest r l vram map n drawn ≡ anyDirty map (fetched (scanOf r l) vram))
+Inv-loop r vram map l drawn₀ n₀ drawn n = (n ≤ 32) × (drawn ≤ 4) × (restDirty r l vram map n drawn ≡ anyDirty map (fetched (scanOf r l) vram))
 
 abbrev μ-loop : tie.MeasureT-loop
 μ-loop r vram map l drawn₀ n₀ drawn n = 32 - n
@@ -56,7 +56,7 @@ does : (c : tie.Else3 Inv-loop μ-loop) → shape.covers (Args (I (E1 (c .before
 does c = left-not (cov (c .before)) (c .if3 .left)
 
 -- what a drawn sprite adds
-adds : (c : tie.After-sprite-dirty Inv-loop μ-loop) → let e = E1 (c .before .before .before) in let a = Args (I e) .args in let h = I e .before .loop in rest (a .r) (a .l) (a .vram .now) (a .map .now) (h .n) (h .drawn) ≡ (c .sprite-dirty .result || rest (a .r) (a .l) (a .vram .now) (a .map .now) (h .n + 1) (h .drawn + 1))
+adds : (c : tie.After-sprite-dirty Inv-loop μ-loop) → let e = E1 (c .before .before .before) in let a = Args (I e) .args in let h = I e .before .loop in restDirty (a .r) (a .l) (a .vram .now) (a .map .now) (h .n) (h .drawn) ≡ (c .sprite-dirty .result || restDirty (a .r) (a .l) (a .vram .now) (a .map .now) (h .n + 1) (h .drawn + 1))
 adds c =
     let f = c .before .before .before in
     let e = E1 f in
@@ -64,7 +64,7 @@ adds c =
     let h = I e .before .loop in
     let one = rw (e .before .before .attribute-address .ensures) at (c .sprite-dirty .ensures) in
     drawn (a .r) (a .l) (a .vram .now) (a .map .now) (h .n) (h .drawn) (I e .loop-test .taken) (clean e) (more f) (does (c .before .before)) (c .before .if4 .left)
-    ∙ ap (λ (b : Bool). b || rest (a .r) (a .l) (a .vram .now) (a .map .now) (h .n + 1) (h .drawn + 1)) (sym one)
+    ∙ ap (λ (b : Bool). b || restDirty (a .r) (a .l) (a .vram .now) (a .map .now) (h .n + 1) (h .drawn + 1)) (sym one)
 
 few : (c : tie.Else4 Inv-loop μ-loop) → I (E1 (c .before .before)) .before .loop .drawn < 4
 few c = let most = I (E1 (c .before .before)) .before .loop .inv .1 in let not-four = c .if4 .left in omega arith
@@ -127,7 +127,7 @@ returns-4 c =
     let e = E1 (c .before .before .before .before) in
     let a = Args (I e) .args in
     let h = I e .before .loop in
-    sym (adds (c .before) ∙ ap (λ (b : Bool). b || rest (a .r) (a .l) (a .vram .now) (a .map .now) (h .n + 1) (h .drawn + 1)) (c .if5 .taken)) ∙ h .inv .2
+    sym (adds (c .before) ∙ ap (λ (b : Bool). b || restDirty (a .r) (a .l) (a .vram .now) (a .map .now) (h .n + 1) (h .drawn + 1)) (c .if5 .taken)) ∙ h .inv .2
 
 add-drawn : tie.Need-add-drawn Inv-loop μ-loop
 add-drawn c = omega (arith, few (c .before .before))
@@ -145,7 +145,7 @@ loop-again-2 c =
     let h = I e .before .loop in (
       omega (arith, I e .loop-test .taken),
       omega (arith, few (c .before .before)),
-      sym (adds (c .before) ∙ ap (λ (b : Bool). b || rest (a .r) (a .l) (a .vram .now) (a .map .now) (h .n + 1) (h .drawn + 1)) (c .if5 .left)) ∙ h .inv .2,
+      sym (adds (c .before) ∙ ap (λ (b : Bool). b || restDirty (a .r) (a .l) (a .vram .now) (a .map .now) (h .n + 1) (h .drawn + 1)) (c .if5 .left)) ∙ h .inv .2,
     )
 
 returns-5 : tie.Need-returns-5 Inv-loop μ-loop

@@ -22,23 +22,23 @@ abbrev μ-loop : tie.MeasureT-loop
 
 -- where the loop still goes on, c is one of the sprite's columns and on the screen
 in-sprite : (c : tie.In-loop Inv-loop μ-loop) → c .before .loop .c < c .before .before .before .before .before .args .s .first + side (c .before .before .before .before .before .args .r)
-in-sprite c = omega (arith, c .before .before .before .end-column .ensures, c .loop-test .taken)
+in-sprite c = omega (arith, c .before .before .before .end-visible .ensures, c .loop-test .taken)
 
 on-screen : (c : tie.In-loop Inv-loop μ-loop) → c .before .loop .c < 288
-on-screen c = omega (arith, c .before .before .before .end-column .ensures, c .loop-test .taken)
+on-screen c = omega (arith, c .before .before .before .end-visible .ensures, c .loop-test .taken)
 
-end-column-requires : tie.Need-end-column-requires Inv-loop μ-loop
-end-column-requires c κs = search needs
+end-visible-requires : tie.Need-end-visible-requires Inv-loop μ-loop
+end-visible-requires c κs = search needs
 
-first-column-requires : tie.Need-first-column-requires Inv-loop μ-loop
-first-column-requires c κs = search needs
+first-visible-requires : tie.Need-first-visible-requires Inv-loop μ-loop
+first-visible-requires c κs = search needs
 
 loop-holds : tie.Need-loop-holds Inv-loop μ-loop
 loop-holds c =
     let a = c .before .before .before .args in (
-      omega (arith, c .first-column .ensures),
-      swept-none (c .before .before .before .pre) (λ x below o. rw (hits-left (a .r) (a .s) (visible x) (omega (arith, c .first-column .ensures)))),
-      met-none (λ x below. rw (hits-left (a .r) (a .s) (visible x) (omega (arith, c .first-column .ensures)))),
+      omega (arith, c .first-visible .ensures),
+      swept-none (c .before .before .before .pre) (λ x below o. rw (hits-left (a .r) (a .s) (visible x) (omega (arith, c .first-visible .ensures)))),
+      met-none (λ x below. rw (hits-left (a .r) (a .s) (visible x) (omega (arith, c .first-visible .ensures)))),
     )
 
 sub-x : tie.Need-sub-x Inv-loop μ-loop
@@ -91,7 +91,7 @@ returns : tie.Need-returns Inv-loop μ-loop
 returns c =
     let a = c .before .before .before .before .before .args in
     let h = c .before .loop in
-    let beyond : (x : ℕ) → x < 256 → h .c ≤ visible x → hits (a .r) (a .s) (visible x) ≡ false = λ x below above. hits-right (a .r) (a .s) (visible x) (omega (arith, c .before .before .before .end-column .ensures, c .loop-test .left)) in
+    let beyond : (x : ℕ) → x < 256 → h .c ≤ visible x → hits (a .r) (a .s) (visible x) ≡ false = λ x below above. hits-right (a .r) (a .s) (visible x) (omega (arith, c .before .before .before .end-visible .ensures, c .loop-test .left)) in
     let keeps : (x : ℕ) → x < 256 → h .c ≤ visible x → (o : ℕ) → over (cond (hits (a .r) (a .s) (visible x)) 1 0) o ≡ o = λ x below above o. rw (beyond x below above) in
     let misses : (x : ℕ) → x < 256 → h .c ≤ visible x → (hits (a .r) (a .s) (visible x) && eqb (getD (a .hit .now) x 0) 1) ≡ false = λ x below above. rw (beyond x below above) in
     (met-all misses (h .inv .2), swept-all keeps (h .inv .1))
@@ -102,8 +102,8 @@ add-hits-spec =
     (tie.spec
     Inv-loop
     μ-loop
-    end-column-requires
-    first-column-requires
+    end-visible-requires
+    first-visible-requires
     loop-holds
     sub-x
     bit-at-requires

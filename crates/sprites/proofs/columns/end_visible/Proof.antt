@@ -1,9 +1,9 @@
--- `end_column` meets its contract.
+-- `end_visible` meets its contract.
 use native.Mathlib.Omega.{arith}
 use Rattle.sprites.proofs.Laws.Columns.{side-small}
 use borrow.Author.Needs.{needs}
-use Rattle.sprites.proofs.columns.end_column.Statement.{statement}
-use Rattle.sprites.proofs.columns.end_column.Tie as tie
+use Rattle.sprites.proofs.columns.end_visible.Statement.{statement}
+use Rattle.sprites.proofs.columns.end_visible.Tie as tie
 
 cast-end : tie.Need-cast-end
 cast-end c = search needs
@@ -20,5 +20,5 @@ returns c = search needs
 returns-2 : tie.Need-returns-2
 returns-2 c = search needs
 
-pub end-column-spec : {M : Type 1} → statement M
-end-column-spec = tie.close (tie.spec cast-end side-requires add-end returns returns-2)
+pub end-visible-spec : {M : Type 1} → statement M
+end-visible-spec = tie.close (tie.spec cast-end side-requires add-end returns returns-2)
