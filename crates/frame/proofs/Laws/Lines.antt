@@ -58,14 +58,14 @@ pub count-more : (n : ℕ) (p : ℕ → Bool) → countBelow (n + 1) p ≡ count
 unfolding countBelow
 count-more n p = rw add-one refl
 
-pub bool-small : (b : Bool) → boolByte b ≤ 1
-bool-small mathlib.Core.Bool.Bool.true = omega arith
-bool-small mathlib.Core.Bool.Bool.false = omega arith
+pub bit-small : (b : Bool) → boolByte b ≤ 1
+bit-small mathlib.Core.Bool.Bool.true = omega arith
+bit-small mathlib.Core.Bool.Bool.false = omega arith
 
 pub count-le : (n : ℕ) (p : ℕ → Bool) → countBelow n p ≤ n
 unfolding countBelow
 count-le zero p = omega arith
-count-le (suc n) p = let below = count-le n p in let one = bool-small (p n) in omega arith
+count-le (suc n) p = let below = count-le n p in let one = bit-small (p n) in omega arith
 
 -- Line l of lines end to end.
 pub line-of-end : (f : ℕ → List ℕ) (n : ℕ) → ((k : ℕ) → k < n → length (f k) ≡ 256) → (l : ℕ) → l < n → lineAt (endToEnd n f) l ≡ f l

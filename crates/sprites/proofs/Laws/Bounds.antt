@@ -14,7 +14,7 @@ use Rattle.sprites.specs.Shape.{scaled, rowOffset, covers}
 use Rattle.sprites.specs.Scan.{attributeAddress, spritePatternAddress}
 
 pub attribute-inside : (r : List ℕ) → masked r ≡ true → (n k : ℕ) → n < 32 → k < 4 → attributeAddress r n k < vramSize
-attribute-inside r ok n k hn hk = inside GraphicsI attributes r ok (4 * n + k) (omega arith)
+attribute-inside r ok n k hn hk = inside GraphicsI attributes r ok _ (omega arith)
 
 -- a row of a sprite that covers the line is one of its 8 or 16
 pub row-small : (g m : Bool) (o : ℕ) → o < cond g 16 8 * cond m 2 1 → scaled m o < cond g 16 8

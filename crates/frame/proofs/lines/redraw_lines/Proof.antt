@@ -7,7 +7,7 @@ use lib.ListN.{length, take, drop}
 use Rattle.scanline.specs.Calls.{noteAt, colours}
 use Rattle.frame.specs.Due.{due, newLine, newNote}
 use Rattle.frame.proofs.Laws.Redraw.{Redrawn, redrawn-none, redrawn-line, redrawn-all, prefix-long}
-use Rattle.frame.proofs.Laws.Lines.{count-le, bool-small, old-line}
+use Rattle.frame.proofs.Laws.Lines.{count-le, bit-small, old-line}
 use Rattle.frame.proofs.Laws.Due.{wide-line}
 use Rattle.frame.proofs.Laws.Still.{clear-both, frame-stays, notes-stay, no-count}
 use denote.Ref.{now}
@@ -75,7 +75,7 @@ add-redrawn c =
     let at = c .before .before .before .before .before .before .before .loop in
     let a = c .before .before .before .before .before .before .before .before .before .before .before .before .before .before .args in
     let below = count-le (at .l) (due (a .redraw) (a .r) (now (a .vram)) (now (a .map))) in
-    let one = bool-small (c .before .before .before .redraw-line .result .redrawn) in
+    let one = bit-small (c .before .before .before .redraw-line .result .redrawn) in
     omega (arith, at .inv .2 .counted)
 
 add-l : tie.Need-add-l Inv-loop μ-loop
