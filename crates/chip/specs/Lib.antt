@@ -1,4 +1,5 @@
--- The definitions that the contracts cite, in the order of the sections "State and ports" and "Refusal numbers".
+-- The definitions that the contracts cite: numbers and lists, then the sections "State and ports" and "Refusal numbers", then what the
+-- sections on the picture start from.
 pub mod Bits
 pub mod Lists
 pub mod Ranges
