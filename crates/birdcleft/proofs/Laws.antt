@@ -5,7 +5,6 @@ use mathlib.Core.Path.{_≡_, refl, ap, _∙_}
 use mathlib.Core.Bool.{true, false}
 use mathlib.Core.List.{List, [], _∷_}
 use lib.ListN.{length}
-use borrow.Author.Needs.{needs}
 use borrow.Author.Tests.{eqb-true, eq-eqb, ne-eqb}
 use Rattle.chip.specs.Refusals.{numberOf, resultOf, isAccepted, ifAccepted, vramTest, sliceTest}
 use Rattle.chip.specs.Layout.{blockSize, blockOf, chipOf}
@@ -65,5 +64,9 @@ module _ (entry : Refusal) (block : List ℕ) (leaves : Chip → List ℕ) (lent
   unfolding listThrough
   direct-list passed loaded left = rw (passes entry number passed) (left ∙ ap leaves loaded)
 
--- What the needs of a call from C follow by: `search` finds which law, and its premises, at each.
-pub ruleset from-c = (block-fifteen, vram-fifteen, refused-result, refused-block, refused-list, direct-result, direct-block, direct-list, needs)
+-- The laws by the place at which a proof cites them: for the block's length, at a refusal at entry, and at the call's end.
+pub ruleset lengths = (block-fifteen, vram-fifteen)
+
+pub ruleset at-entry = (refused-result, refused-block, refused-list)
+
+pub ruleset at-end = (direct-result, direct-block, direct-list)

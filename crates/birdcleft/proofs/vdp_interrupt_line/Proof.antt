@@ -1,5 +1,6 @@
--- `vdp_interrupt_line` meets its contract: each need follows by the laws of a call from C.
-use Rattle.birdcleft.proofs.Laws.{from-c}
+-- `vdp_interrupt_line` meets its contract.
+use borrow.Author.Needs.{needs}
+use Rattle.birdcleft.proofs.Laws.{lengths, at-entry, at-end}
 use Rattle.birdcleft.proofs.vdp_interrupt_line.Statement.{statement}
 use Rattle.birdcleft.proofs.vdp_interrupt_line.Tie as tie
 
@@ -7,9 +8,9 @@ pub vdp-interrupt-line-spec : {M : Type 1} → statement M
 vdp-interrupt-line-spec =
     tie.close
     (tie.spec
-    (λ c κs. search from-c)
-    (λ c. search from-c)
-    (λ c κs. search from-c)
-    (λ c κs. search from-c)
-    (λ c κs. search from-c)
-    (λ c. search from-c))
+    (λ c κs. search needs)
+    (λ c. search at-entry)
+    (λ c κs. search lengths)
+    (λ c κs. search needs)
+    (λ c κs. search needs)
+    (λ c. search at-end))
