@@ -18,8 +18,8 @@ use Rattle.chip.specs.declared.state.Waiting.{Waiting}
 use Rattle.chip.specs.declared.state.Waiting.the-variants.{Nothing, First}
 use Rattle.chip.proofs.Laws.Ranges.{and-both}
 use Rattle.chip.proofs.Laws.State.{address-in, masked-in}
-use Rattle.scanline.specs.Notes.{withFifth, statusAfter}
-use Rattle.frame.specs.Draw.{statusThrough, drawnState}
+use Rattle.scanline.specs.Notes.{withFifth, statusAfter, statusThrough}
+use Rattle.frame.specs.Draw.{drawnState}
 use Rattle.snapshot.proofs.Laws.Accepted.{state-of}
 use Rattle.snapshot.proofs.Laws.Bytes.{bytes-part}
 use Rattle.claims.proofs.Laws.Registers.{kept-byte, bytes-set, masked-set}
