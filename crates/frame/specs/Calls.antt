@@ -3,7 +3,7 @@ use Prim.Native.Nat.{ℕ}
 use mathlib.Core.Bool.{Bool}
 use mathlib.Core.List.{List, [], _∷_}
 use Rattle.chip.specs.Map.{mapSize}
-use Rattle.chip.specs.Refusals.{vramTest, sliceTest, stateTest, refusalOf, ifAccepted, answered}
+use Rattle.chip.specs.Refusals.{Test, vramTest, sliceTest, stateTest, refusalOf, ifAccepted, answered}
 use Rattle.chip.specs.declared.state.Chip.{Chip}
 use Rattle.chip.specs.declared.refusal.Answer.{Answer}
 use Rattle.chip.specs.declared.refusal.Refusal.{Refusal}
@@ -12,9 +12,12 @@ use Rattle.frame.specs.Draw.{frameOf, notesOf, clearMap, drawnState}
 use Rattle.frame.specs.Due.{newFrame, newNotes, dueCount}
 
 -- Both make the same tests.
+abbrev pub drawTests : Chip → List ℕ → List ℕ → List ℕ → List ℕ → List Test
+drawTests c vram map frame notes =
+    vramTest vram ∷ sliceTest mapSize map ∷ sliceTest frameSize frame ∷ sliceTest notesSize notes ∷ stateTest c ∷ []
+
 abbrev pub drawRefusal : Chip → List ℕ → List ℕ → List ℕ → List ℕ → Refusal
-drawRefusal c vram map frame notes =
-    refusalOf (vramTest vram ∷ sliceTest mapSize map ∷ sliceTest frameSize frame ∷ sliceTest notesSize notes ∷ stateTest c ∷ [])
+drawRefusal c vram map frame notes = refusalOf (drawTests c vram map frame notes)
 
 abbrev pub fullDraw : Chip → List ℕ → List ℕ → List ℕ → List ℕ → Answer
 fullDraw c vram map frame notes = answered (drawRefusal c vram map frame notes) c (drawnState c (notesOf (c .registers) vram)) 0
