@@ -18,6 +18,7 @@ pub use layout::decode;
 pub use layout::load;
 pub use lists::copy;
 pub use lists::fill;
+pub use lists::put;
 pub use map::is_dirty;
 pub use mode::Mode;
 pub use mode::mode_of;

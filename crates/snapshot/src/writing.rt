@@ -1,8 +1,6 @@
 // Writing a snapshot.
 ghost use mathlib.Core.Path.{_≡_};
-ghost use Prim.Native.Nat.{_+_, _≤_};
 ghost use lib.ListN.{length};
-ghost use Rattle.snapshot.specs.Lists.{putAt};
 ghost use Rattle.snapshot.specs.Format.{snapshotOf};
 ghost use Rattle.snapshot.specs.Calls.{writeSnapshot, written};
 use crate::checksum::checksum;
@@ -10,15 +8,7 @@ use crate::trailer::pointer_bytes;
 use chip::Answer;
 use chip::Chip;
 use chip::Refusal;
-
-// Copies bytes into a slice, from a place on.
-fn put(to: &mut [u8], at: usize, bytes: &[u8])
-    requires { ⌜ at + length (now bytes) ≤ length (now to) ⌝ }
-    ensures { λ _. ⌜ now (to .exit) ≡ putAt at (now (bytes .entry)) (now (to .entry)) ⌝ }
-{
-    let end = at + bytes.len();
-    chip::copy(&mut to[at..end], bytes);
-}
+use chip::put;
 
 // Fills the slice, each part at its distance before the trailer; the sum comes last, over all that stands before it.
 fn fill(chip: Chip, vram: &[u8], out: &mut [u8])

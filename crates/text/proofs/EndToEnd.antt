@@ -1,35 +1,43 @@
--- The pieces that the calls write, put end to end, are the whole text.
+-- The pieces that the steps write, put end to end, are the whole output.
 --
--- Take any well-formed state, any 16,384 bytes of VRAM, a slice of 256 bytes to draw lines into, and an output slice of at
--- least 2,048. Lines 0 to 191 are drawn in order by the call that draws a line. What is then written is the status line;
--- for each of lines 1 to 191 what the step writes, given the range so far, which is line 0 at first; and what the end
--- writes. These bytes, end to end, are `showText`: status before and after a full draw, and the ranges of equal
--- neighbouring lines with their longest runs.
-use Prim.Native.Nat.{ℕ, _≤_}
-use native.Mathlib.Omega.{arith}
-use mathlib.Core.Path.{_≡_, ap, ap₂, _∙_}
-use mathlib.Core.Bool.{true}
-use mathlib.Core.List.{List, _++_}
-use lib.ListN.{length}
+-- Take any file: any list of bytes that came in. Read it by `start` into VRAM of 16,384 bytes, whatever these hold, and step
+-- from there until a piece is the last, each step lent any output slice of at least 2,048 bytes. Then at most 193 steps
+-- write the last piece, and what they wrote, end to end, is `showOutput` of the file.
+use Prim.Native.Nat.{ℕ, suc, _≤_}
+use mathlib.Core.Path.{_≡_, refl, ap}
+use mathlib.Core.Bool.{Bool, true, cond}
+use mathlib.Core.List.{List}
+use lib.ListN.{length, replicate}
 use Rattle.chip.specs.State.{wellFormed}
+use Rattle.chip.specs.Refusals.{numberOf}
 use Rattle.chip.specs.declared.state.Chip.{Chip}
-use Rattle.chip.proofs.Laws.Lists.{length-tabulate}
-use Rattle.scanline.specs.Calls.{colours, drawLineLine}
+use Rattle.snapshot.specs.Calls.{readVram}
+use Rattle.scanline.specs.Calls.{colours}
 use Rattle.text.specs.Runs.{runs}
-use Rattle.text.specs.Lines.{statusText}
 use Rattle.text.specs.Show.{linesFrom, showText}
-use Rattle.text.specs.Pieces.{drawn, stepsWritten, pieces}
-use Rattle.text.proofs.Laws.Calls.{status-fits}
-use Rattle.text.proofs.Laws.Pieces.{line-drawn, drawn-is, lines-same, steps-are}
+use Rattle.text.specs.Output.{showOutput}
+use Rattle.text.specs.Pieces.{stepsFrom}
+use Rattle.text.specs.Walk.{firstNext, startWalk, stepOf}
+use Rattle.text.specs.declared.walk.Next.the-variants.{Refused, Status}
+use Rattle.text.specs.declared.walk.Walk.{Walk}
+use Rattle.text.proofs.Laws.Pieces.{wholly, more-steps}
+use Rattle.text.proofs.Laws.Steps.{step-refused, step-status}
+use Rattle.text.proofs.Laws.Ranges.{walkAt, can-draw, ranges-written}
+use Rattle.text.proofs.Laws.Reading.{from-file}
 
-pub end-to-end : (c : Chip) (vram slice out : List ℕ) → wellFormed c ≡ true → length vram ≡ 16384 → length slice ≡ 256 → 2048 ≤ length out → pieces c vram slice out ≡ showText c vram
-unfolding pieces showText runs linesFrom
-end-to-end c vram slice out ok full wide room =
-    let f : ℕ → List ℕ = colours (c .registers) vram in
-    let g : ℕ → List ℕ = drawLineLine c vram slice in
-    let same : (l : ℕ) → _ = line-drawn vram slice full wide c ok in
-    ap₂ _++_
-    (status-fits (c .status) (drawn c vram slice 192 .status) out (omega arith)
-    ∙ ap (λ (d : Chip). statusText (c .status) (d .status)) (drawn-is vram slice full wide c ok 192 (omega arith)))
-    (ap₂ (λ (x : List ℕ) (m : List (List ℕ)). stepsWritten 0 0 x out m) (same 0 (omega arith)) (lines-same g f same 1 191 (omega arith))
-    ∙ steps-are f (λ l. length-tabulate 256 _) out room 191 0 0 1 1 (f 0) (length-tabulate 256 _) (omega arith))
+-- from the status line on, the steps write the text of state and VRAM
+text-written : (vram : List ℕ) → length vram ≡ 16384 → (c : Chip) → wellFormed c ≡ true → (range : List ℕ) (slices : ℕ → List ℕ) → ((k : ℕ) → 2048 ≤ length (slices k)) → stepsFrom (stepOf vram) 193 (walkAt c Status 0 0 range) slices ≡ wholly (showText c vram)
+unfolding showText runs linesFrom
+text-written vram full c ok range slices fits =
+    let w : Walk = walkAt c Status 0 0 range in
+    more-steps (stepOf vram) 192 w slices (step-status vram w (slices 0) (fits 0) refl (can-draw vram full c ok)) refl
+    (ranges-written vram full c ok 191 1 0 0 1 (colours (c .registers) vram 0) (λ k. slices (suc k)) (λ k. fits (suc k)) refl refl refl)
+
+pub end-to-end : (file vram : List ℕ) → length vram ≡ 16384
+    → (slices : ℕ → List ℕ) → ((k : ℕ) → 2048 ≤ length (slices k))
+    → stepsFrom (stepOf (readVram vram file)) 193 (startWalk vram file) slices ≡ record { bytes = showOutput file; whole = true }
+end-to-end file vram full slices fits =
+    from-file stepOf (λ r c. walkAt c (firstNext (numberOf r)) 0 0 (replicate 256 0)) showText 192 slices
+    (λ v whole c ok. text-written v whole c ok (replicate 256 0) slices fits)
+    (λ v r c e. step-refused v _ (slices 0) (fits 0) (ap (λ (b : Bool). cond b Status (Refused (numberOf r))) e))
+    file vram full

@@ -1,12 +1,13 @@
-// The text that shows a snapshot, piece by piece, into lent slices.
-mod put;
+// The text that shows a snapshot: what a file is answered with, piece by piece, into a lent slice.
+mod numbers;
 mod range;
 mod refusal;
 mod runs;
 mod status;
+mod walk;
 
-pub use range::Joined;
-pub use range::end;
-pub use range::step;
 pub use refusal::refusal_line;
-pub use status::status_line;
+pub use walk::Piece;
+pub use walk::Walk;
+pub use walk::start;
+pub use walk::step;

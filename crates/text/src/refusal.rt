@@ -2,13 +2,13 @@
 ghost use mathlib.Core.Path.{_≡_};
 ghost use Prim.Native.Nat.{_≤_};
 ghost use lib.ListN.{length};
-ghost use Rattle.snapshot.specs.Lists.{putAt};
+ghost use Rattle.chip.specs.Lists.{putAt};
 ghost use Rattle.text.specs.Lines.{refusedText};
 ghost use Rattle.text.specs.Calls.{refusedWritten};
-use crate::put::put;
-use crate::put::put_decimal;
+use crate::numbers::put_decimal;
+use chip::put;
 
-fn put_refused(out: &mut [u8], number: u8) -> usize
+pub fn put_refused(out: &mut [u8], number: u8) -> usize
     requires { ⌜ 12 ≤ length (now out) ⌝ }
     ensures { λ r. ⌜ r ≡ length (refusedText number) ⌝ }
     ensures { λ _. ⌜ now (out .exit) ≡ putAt 0 (refusedText number) (now (out .entry)) ⌝ }

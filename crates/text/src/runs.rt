@@ -3,11 +3,11 @@ ghost use mathlib.Core.Path.{_≡_};
 ghost use Prim.Native.Nat.{_+_, _≤_, _<_};
 ghost use lib.Dec.{eqb};
 ghost use lib.ListN.{length};
-ghost use Rattle.snapshot.specs.Lists.{putAt};
+ghost use Rattle.chip.specs.Lists.{putAt};
 ghost use Rattle.text.specs.Runs.{runs};
 ghost use Rattle.text.specs.Lines.{runText, runsText};
-use crate::put::put;
-use crate::put::put_decimal;
+use crate::numbers::put_decimal;
+use chip::put;
 
 fn put_run(out: &mut [u8], at: usize, count: usize, colour: u8) -> usize
     requires { ⌜ (count < 1000) × (at + 8 ≤ length (now out)) ⌝ }

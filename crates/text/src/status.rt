@@ -1,14 +1,35 @@
-// The status line.
+// Status after a full draw, and the status line.
 ghost use mathlib.Core.Path.{_≡_};
+ghost use mathlib.Core.Bool.{true};
 ghost use Prim.Native.Nat.{_≤_};
 ghost use lib.ListN.{length};
-ghost use Rattle.snapshot.specs.Lists.{putAt};
+ghost use Rattle.chip.specs.Lists.{putAt};
+ghost use Rattle.chip.specs.State.{masked};
+ghost use Rattle.scanline.specs.Notes.{statusThrough};
+ghost use Rattle.frame.specs.Draw.{notesOf};
 ghost use Rattle.text.specs.Lines.{statusText};
-ghost use Rattle.text.specs.Calls.{statusWritten};
-use crate::put::put;
-use crate::put::put_hex;
+use crate::numbers::put_hex;
+use chip::put;
+use scanline::draw_row;
+use scanline::status_after;
 
-fn put_status(out: &mut [u8], before: u8, after: u8) -> usize
+// Status after lines 0 to 191 are drawn.
+pub fn status_drawn(r: [u8; 8], vram: &[u8], status: u8) -> u8
+    requires { ⌜ (masked r ≡ true) × (length (now vram) ≡ 16384) ⌝ }
+    ensures { λ s. ⌜ s ≡ statusThrough status (notesOf r (now (vram .entry))) ⌝ }
+{
+    let mut line = [0u8; 256];
+    let mut s = status;
+    let mut l = 0u8;
+    while l < 192 {
+        let note = draw_row(r, vram, l, &mut line);
+        s = status_after(s, note);
+        l += 1;
+    }
+    s
+}
+
+pub fn put_status(out: &mut [u8], before: u8, after: u8) -> usize
     requires { ⌜ 13 ≤ length (now out) ⌝ }
     ensures { λ r. ⌜ r ≡ length (statusText before after) ⌝ }
     ensures { λ _. ⌜ now (out .exit) ≡ putAt 0 (statusText before after) (now (out .entry)) ⌝ }
@@ -21,15 +42,4 @@ fn put_status(out: &mut [u8], before: u8, after: u8) -> usize
     let d = put_hex(out, c, after);
     let newline = [b'\n'];
     put(out, d, &newline)
-}
-
-// Status before and after a full draw.
-pub fn status_line(before: u8, after: u8, out: &mut [u8]) -> usize
-    ensures { λ r. ⌜ r ≡ length (statusWritten before after (now (out .entry))) ⌝ }
-    ensures { λ _. ⌜ now (out .exit) ≡ putAt 0 (statusWritten before after (now (out .entry))) (now (out .entry)) ⌝ }
-{
-    if out.len() < 13 {
-        return 0;
-    }
-    put_status(out, before, after)
 }

@@ -1,41 +1,88 @@
--- `main` is safe: the state of an accepted snapshot is well-formed.
-use mathlib.Core.Path.{sym, _∙_}
-use Rattle.input.proofs.Laws.Accepted.{well-formed}
+-- `main` is safe, and it ends: while a piece is not the last, each step leaves fewer steps.
+use Prim.Native.Nat.{_≤_}
+use native.Mathlib.Omega.{arith}
+use mathlib.Core.Path.{_≡_, sym, _∙_}
+use lib.ListN.{length}
+use lib.Seq.{length-take-le}
+use Rattle.text.specs.Walk.{stepsLeft}
+use Rattle.text.proofs.Laws.Steps.{falls, fits}
 use borrow.Author.Needs.{needs}
 use Rattle.show.proofs.main.Statement.{statement}
 use Rattle.show.proofs.main.Tie as tie
 
-slice-aggregate-read : tie.Need-slice-aggregate-read
-slice-aggregate-read c = search needs
+abbrev Inv-loop : tie.InvT-loop
+Inv-loop count vram walk₀ out₀ walk out = length out ≡ 2048
 
-read-requires : tie.Need-read-requires
+abbrev μ-loop : tie.MeasureT-loop
+μ-loop count vram walk₀ out₀ walk out = stepsLeft walk
+
+read-requires : tie.Need-read-requires Inv-loop μ-loop
 read-requires c κs = search needs
 
-number-requires : tie.Need-number-requires
-number-requires c κs = search needs
+array-share-prefix-file : tie.Need-array-share-prefix-file Inv-loop μ-loop
+array-share-prefix-file c = search needs
 
-slice-aggregate-show : tie.Need-slice-aggregate-show
-slice-aggregate-show c = search needs
+slice-aggregate-start : tie.Need-slice-aggregate-start Inv-loop μ-loop
+slice-aggregate-start c = sym (length-take-le _ _ (omega arith))
 
-show-requires : tie.Need-show-requires
-show-requires c κs =
-    let number = c .before .before in
-    (well-formed (number .before .before .read .ensures) (sym (number .number .ensures) ∙ c .before .if1 .taken), search needs)
+start-requires : tie.Need-start-requires Inv-loop μ-loop
+start-requires c κs = search needs
 
-returns : tie.Need-returns
+loop-holds : tie.Need-loop-holds Inv-loop μ-loop
+loop-holds c = search needs
+
+slice-aggregate-step : tie.Need-slice-aggregate-step Inv-loop μ-loop
+slice-aggregate-step c = search needs
+
+step-requires : tie.Need-step-requires Inv-loop μ-loop
+step-requires c κs = search needs
+
+-- what a step wrote has room in the output slice
+room : (s : tie.After-step Inv-loop μ-loop) → s .step .result .written ≤ length (s .step .last .1 .1 .0)
+room s =
+    let l = s .before .before .before in
+    let kept = s .step .kept .1 .1 .0 in
+    omega (arith, kept, fits (l .before .start .last .1 .0) (l .loop .walk) (l .loop .out) (s .step .ensures .0) (s .step .ensures .1) kept)
+
+array-share-prefix-out : tie.Need-array-share-prefix-out Inv-loop μ-loop
+array-share-prefix-out c = room (c .before)
+
+slice-aggregate-write-all : tie.Need-slice-aggregate-write-all Inv-loop μ-loop
+slice-aggregate-write-all c = sym (length-take-le _ _ (room (c .before .before)))
+
+write-all-requires : tie.Need-write-all-requires Inv-loop μ-loop
+write-all-requires c κs = search needs
+
+returns : tie.Need-returns Inv-loop μ-loop
 returns c = search needs
 
-returns-2 : tie.Need-returns-2
-returns-2 c = search needs
+loop-less : tie.Need-loop-less Inv-loop μ-loop
+loop-less c =
+    let s = c .before .before .before .before .before in
+    let l = s .before .before .before in
+    falls (l .before .start .last .1 .0) (l .loop .walk) (l .loop .out) (s .step .ensures .0) (c .before .if1 .left)
+
+loop-again : tie.Need-loop-again Inv-loop μ-loop
+loop-again c =
+    let s = c .before .before .before .before .before in
+    s .step .kept .1 .1 .0 ∙ s .before .before .before .loop .inv
 
 pub main-spec : {M : Type 1} → statement M
 main-spec =
     tie.close
     (tie.spec
-    slice-aggregate-read
+    Inv-loop
+    μ-loop
     read-requires
-    number-requires
-    slice-aggregate-show
-    show-requires
+    array-share-prefix-file
+    slice-aggregate-start
+    start-requires
+    loop-holds
+    slice-aggregate-step
+    step-requires
+    array-share-prefix-out
+    slice-aggregate-write-all
+    write-all-requires
     returns
-    returns-2)
+    loop-less
+    loop-again)

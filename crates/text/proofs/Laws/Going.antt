@@ -5,7 +5,7 @@ use mathlib.Core.Path.{_≡_, refl, sym, ap, ap₂, _∙_}
 use mathlib.Core.List.{List, _++_, append-nil}
 use lib.Dec.{eqb}
 use lib.ListN.{length, getD, drop, length-append}
-use Rattle.snapshot.specs.Lists.{putAt}
+use Rattle.chip.specs.Lists.{putAt}
 use Rattle.text.specs.Runs.{runsAfter, runs}
 use Rattle.text.specs.Lines.{runText, runsText}
 use Rattle.text.proofs.Laws.Put.{Put, put-put}

@@ -1,11 +1,12 @@
 -- Bytes put into a list one after another.
 use Prim.Native.Nat.{ℕ, _+_, _≤_}
 use native.Mathlib.Nat.{add-assoc}
+use native.Mathlib.Omega.{arith}
 use mathlib.Core.Path.{_≡_, sym, ap, ap₂, _∙_}
 use mathlib.Core.List.{List, _++_, append-assoc}
 use lib.ListN.{length, take, drop, length-append}
 use lib.Seq.{length-take-le, take-at, drop-at, drop-drop}
-use Rattle.snapshot.specs.Lists.{putAt}
+use Rattle.chip.specs.Lists.{putAt}
 
 pub put-put : (i : ℕ) (a b l : List ℕ) → i ≤ length l → putAt (i + length a) b (putAt i a l) ≡ putAt i (a ++ b) l
 put-put i a b l h =
@@ -32,3 +33,7 @@ after l₀ i a b {j} {k} {l₁} {l₂} h p q = (
   q .0 ∙ ap (λ (m : ℕ). m + length b) (p .0) ∙ add-assoc i (length a) (length b) ∙ ap (λ (m : ℕ). i + m) (sym (length-append a b)),
   q .1 ∙ ap₂ (λ (m : ℕ) (l : List ℕ). putAt m b l) (p .0) (p .1) ∙ put-put i a b l₀ h,
 )
+
+-- bytes that are put in at the front of a list of the same length have room in it
+pub put-fits : (bytes l : List ℕ) {l′ : List ℕ} → l′ ≡ putAt 0 bytes l → length l′ ≡ length l → length bytes ≤ length l
+put-fits bytes l e kept = omega (arith, sym kept ∙ ap length e ∙ length-append bytes (drop (0 + length bytes) l))

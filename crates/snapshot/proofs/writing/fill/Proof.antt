@@ -83,11 +83,11 @@ returns c =
     let a = b .args in
     let trailer : length (now (a .out)) - 8 ≡ 16398 = omega (arith, b .pre .1) in
     filled (a .chip) (eight b) (now (a .vram)) (b .pre .0) (now (a .out)) trailer
-    (p1 .put .ensures)
-    (rw (e .encode .ensures) at (p2 .put2 .ensures))
-    (rw (q .pointer-bytes .ensures) at (p3 .put3 .ensures))
+    (p1 .put .ensures .1)
+    (rw (e .encode .ensures) at (p2 .put2 .ensures .1))
+    (rw (q .pointer-bytes .ensures) at (p3 .put3 .ensures .1))
     (s .checksum .ensures)
-    (p4 .put4 .ensures)
+    (p4 .put4 .ensures .1)
     (omega (arith, p4 .put4 .kept .0, p3 .put3 .kept .0, p2 .put2 .kept .0, p1 .put .kept .0, b .pre .1))
 
 pub fill-spec : {M : Type 1} → statement M

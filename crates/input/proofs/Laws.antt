@@ -1,2 +1,0 @@
--- A law for the programs that read a snapshot.
-pub mod Accepted

@@ -1,2 +1,0 @@
--- Laws about the definitions of specs/, for this crate's proofs.
-pub mod Paint

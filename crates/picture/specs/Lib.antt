@@ -1,2 +1,0 @@
-pub mod Palette
-pub mod Picture

@@ -1,0 +1,75 @@
+-- What a step does, by what is next and by the length of the slice.
+use Prim.Native.Nat.{ℕ, _+_, _≤_, _<_}
+use native.Mathlib.Omega.{arith}
+use mathlib.Core.Path.{_≡_, refl, ap, _∙_}
+use mathlib.Core.Bool.{Bool, true, cond}
+use mathlib.Core.List.{List, [], _∷_}
+use lib.Dec.{eqb}
+use lib.ListN.{length, replicate, length-replicate}
+use borrow.Author.Tests.{eq-eqb, ne-eqb, le-leb, lt-leb, leb-true}
+use Rattle.chip.specs.State.{wellFormed}
+use Rattle.chip.specs.Refusals.{Test, numberOf, isAccepted, vramTest, sliceTest, stateTest, lineTest}
+use Rattle.chip.specs.declared.state.Chip.{Chip}
+use Rattle.chip.specs.declared.refusal.Answer.{Answer}
+use Rattle.chip.specs.declared.refusal.Refusal.{Refusal}
+use Rattle.chip.proofs.Laws.Refusals.{all-pass, all-accepted}
+use Rattle.scanline.specs.Calls.{colours, drawLineRefusal, drawLine, drawLineLine}
+use Rattle.text.specs.Pieces.{Step}
+use Rattle.ppm.specs.declared.walk.Next.{Next}
+use Rattle.ppm.specs.declared.walk.Next.the-variants.{Line}
+use Rattle.ppm.specs.declared.walk.Walk.{Walk}
+use Rattle.ppm.specs.Picture.{painted}
+use Rattle.ppm.specs.Walk.{writesNothing, going, lineStep, stepAt, stepOf}
+
+module _ (vram : List ℕ) (w : Walk) (out : List ℕ) where
+  pub step-short : length out < 768 → stepOf vram w out ≡ writesNothing w
+  unfolding stepOf
+  step-short h = rw (lt-leb 768 (length out) h)
+
+  pub step-fits : {n : Next} → 768 ≤ length out → w .next ≡ n → stepOf vram w out ≡ stepAt vram n w
+  unfolding stepOf
+  step-fits h e = ap (λ (b : Bool). cond b (stepAt vram (w .next) w) (writesNothing w)) (le-leb 768 (length out) h) ∙ ap (λ (m : Next). stepAt vram m w) e
+
+-- the slice that a line is drawn into
+abbrev pub blank : List ℕ
+blank = replicate 256 0
+
+-- the step that writes line l
+abbrev pub writesLine : List ℕ → Walk → ℕ → Step Walk
+writesLine vram w l = record { bytes = painted (colours (w .chip .registers) vram l); walk = going w (Line (l + 1)); last = eqb l 191 }
+
+-- the tests that drawing a line makes
+abbrev lineTests : Chip → List ℕ → ℕ → List Test
+lineTests c vram l = vramTest vram ∷ sliceTest 256 blank ∷ stateTest c ∷ lineTest l ∷ []
+
+module _ (vram : List ℕ) (w : Walk) (l : ℕ) where
+  -- a line that is drawn is one of the 192
+  pub line-below : isAccepted (drawLineRefusal (w .chip) vram blank l) ≡ true → l ≤ 191
+  line-below e = leb-true l 191 (all-pass (lineTests (w .chip) vram l) (refl, (refl, (refl, (refl, tt)))) e .1 .1 .1 .0)
+
+  -- each of them is drawn, in a well-formed state and with VRAM of the right length
+  pub line-accepted : length vram ≡ 16384 → wellFormed (w .chip) ≡ true → l ≤ 191 → lineStep vram w l ≡ writesLine vram w l
+  line-accepted full ok h =
+      ap (λ (r : Refusal). cond (isAccepted r) (writesLine vram w l) (writesNothing w))
+      (all-accepted (lineTests (w .chip) vram l) (eq-eqb _ _ full, (eq-eqb _ _ (length-replicate {A = ℕ} 256 0), (ok, (le-leb l 191 h, tt)))))
+
+  -- by the number that the draw answers
+  module _ {a : Answer} {n : ℕ} (drawn : a ≡ drawLine (w .chip) vram blank l) (number : n ≡ numberOf (a .refusal)) where
+    number-is : n ≡ numberOf (drawLineRefusal (w .chip) vram blank l)
+    number-is = number ∙ ap (λ (b : Answer). numberOf (b .refusal)) drawn
+
+    pub not-drawn : (n ≡ 0 → ⊥) → lineStep vram w l ≡ writesNothing w
+    not-drawn h = ap (λ (b : Bool). cond b (writesLine vram w l) (writesNothing w)) (ne-eqb (numberOf (drawLineRefusal (w .chip) vram blank l)) 0 (λ e. h (number-is ∙ e)))
+
+    module _ (zero : n ≡ 0) where
+      is-accepted : isAccepted (drawLineRefusal (w .chip) vram blank l) ≡ true
+      is-accepted = eq-eqb (numberOf (drawLineRefusal (w .chip) vram blank l)) 0 (omega (arith, number-is))
+
+      pub drawn-below : l ≤ 191
+      drawn-below = line-below is-accepted
+
+      pub is-drawn : lineStep vram w l ≡ writesLine vram w l
+      is-drawn = ap (λ (b : Bool). cond b (writesLine vram w l) (writesNothing w)) is-accepted
+
+      pub drawn-line : {line : List ℕ} → line ≡ drawLineLine (w .chip) vram blank l → line ≡ colours (w .chip .registers) vram l
+      drawn-line e = e ∙ ap (λ (b : Bool). cond b (colours (w .chip .registers) vram l) blank) is-accepted

@@ -1,0 +1,66 @@
+-- The steps over the lines of a picture write its ranges.
+use Prim.Native.Nat.{ℕ, zero, suc, _+_, _-_, _≤_}
+use native.Mathlib.Omega.{arith}
+use mathlib.Core.Path.{_≡_, refl, sym, ap, _∙_}
+use mathlib.Core.Bool.{Bool, true, false, cond}
+use mathlib.Core.List.{List, _∷_, append-nil}
+use lib.ListN.{length}
+use borrow.Author.Tests.{eq-eqb, lt-ltb, le-ltb}
+use Rattle.chip.specs.State.{wellFormed}
+use Rattle.chip.specs.declared.state.Chip.{Chip}
+use Rattle.scanline.specs.Calls.{colours}
+use Rattle.text.specs.Runs.{runsAfter, same}
+use Rattle.text.specs.Lines.{rangeText, rangesText}
+use Rattle.text.specs.Show.{linesFrom}
+use Rattle.text.specs.Pieces.{stepsFrom}
+use Rattle.text.specs.Walk.{drawable, nextAt, lineStepBy, lineStep, stepOf}
+use Rattle.text.specs.declared.walk.Next.{Next}
+use Rattle.text.specs.declared.walk.Next.the-variants.{Line, End}
+use Rattle.text.specs.declared.walk.Walk.{Walk}
+use Rattle.text.proofs.Laws.Pieces.{wholly, last-step, more-steps}
+use Rattle.text.proofs.Laws.Steps.{step-line, step-end}
+
+-- A walk with a state.
+abbrev pub walkAt : Chip → Next → ℕ → ℕ → List ℕ → Walk
+walkAt c next first last range = record { next = next; chip = c; first = first; last = last; range = range }
+
+module _ (vram : List ℕ) (full : length vram ≡ 16384) (c : Chip) (ok : wellFormed c ≡ true) where
+  abbrev f : ℕ → List ℕ
+  f = colours (c .registers) vram
+
+  pub can-draw : drawable c vram ≡ true
+  can-draw = rw (eq-eqb (length vram) 16384 full) ok
+
+  -- line l is next, n lines are left, and the range so far has k lines, first to last
+  pub ranges-written : (n l first last k : ℕ) (range : List ℕ) (slices : ℕ → List ℕ) → ((i : ℕ) → 2048 ≤ length (slices i)) → l + n ≡ 192 → first + k ≡ l → last + 1 ≡ l → stepsFrom (stepOf vram) (suc n) (walkAt c (nextAt l) first last range) slices ≡ wholly (rangesText first (runsAfter same k range (linesFrom f l n)))
+  unfolding linesFrom rangesText runsAfter lineStep
+  ranges-written zero l first last k range slices fits e ek el =
+      let w : Walk = walkAt c (nextAt l) first last range in
+      let over : nextAt l ≡ End = ap (λ (b : Bool). cond b (Line l) End) (le-ltb l 192 (omega arith)) in
+      let upto : last ≡ first + k - 1 = omega arith in
+      last-step (stepOf vram) 0 w slices (step-end vram w (slices 0) (fits 0) over) refl
+      ∙ ap wholly (ap (λ (b : ℕ). rangeText first b range) upto ∙ sym (append-nil (rangeText first (first + k - 1) range)))
+  ranges-written (suc n) l first last k range slices fits e ek el =
+      by (same range (f l)) refl
+      (ranges-written n (l + 1) first l (k + 1) range (λ i. slices (suc i)) (λ i. fits (suc i)) (omega arith) (omega arith) refl)
+      (ranges-written n (l + 1) l l 1 (f l) (λ i. slices (suc i)) (λ i. fits (suc i)) (omega arith) refl refl)
+    where
+      line : nextAt l ≡ Line l
+      line = ap (λ (b : Bool). cond b (Line l) End) (lt-ltb l 192 (omega arith))
+
+      is : (b : Bool) → same range (f l) ≡ b → stepOf vram (walkAt c (nextAt l) first last range) (slices 0) ≡ lineStepBy b (walkAt c (nextAt l) first last range) l (f l)
+      is b t =
+          step-line vram (walkAt c (nextAt l) first last range) (slices 0) (fits 0) line (omega arith) can-draw
+          ∙ ap (λ (d : Bool). lineStepBy d (walkAt c (nextAt l) first last range) l (f l)) t
+
+      by : (b : Bool) → same range (f l) ≡ b
+          → stepsFrom (stepOf vram) (suc n) (walkAt c (nextAt (l + 1)) first l range) (λ i. slices (suc i)) ≡ wholly (rangesText first (runsAfter same (k + 1) range (linesFrom f (l + 1) n)))
+          → stepsFrom (stepOf vram) (suc n) (walkAt c (nextAt (l + 1)) l l (f l)) (λ i. slices (suc i)) ≡ wholly (rangesText l (runsAfter same 1 (f l) (linesFrom f (l + 1) n)))
+          → stepsFrom (stepOf vram) (suc (suc n)) (walkAt c (nextAt l) first last range) slices ≡ wholly (rangesText first (runsAfter same k range (f l ∷ linesFrom f (l + 1) n)))
+      by true t on over =
+          more-steps (stepOf vram) (suc n) (walkAt c (nextAt l) first last range) slices (is true t) refl on
+          ∙ rw t refl
+      by false t on over =
+          let upto : first + k - 1 ≡ last = omega arith in
+          more-steps (stepOf vram) (suc n) (walkAt c (nextAt l) first last range) slices (is false t) refl over
+          ∙ rw (t, upto, ek) refl
