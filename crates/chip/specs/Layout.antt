@@ -22,20 +22,22 @@ illFormedState = withAddress 65535 powerUpState
 abbrev pub waitingValid : ℕ → ℕ → Bool
 waitingValid flag a = eqb flag 1 || eqb flag 0 && eqb a 0
 
--- The state that 14 bytes hold, beside the redraw mark, which they do not. Registers and address decode as they stand:
--- whether a call takes them is for the test of the state.
-unfoldable pub decoded : List ℕ → Bool → Chip
-decoded b redraw =
-    cond (waitingValid (getD b 11 0) (getD b 12 0))
-    (record {
+-- The fields as 14 bytes have them, beside the redraw mark, which they do not have.
+abbrev pub stateIn : List ℕ → Bool → Chip
+stateIn b redraw =
+    record {
       registers = take 8 b;
       address = getD b 8 0 + 256 * getD b 9 0;
       buffer = getD b 10 0;
       waiting = waitingOf (getD b 11 0) (getD b 12 0);
       status = getD b 13 0;
       redraw = redraw;
-    })
-    illFormedState
+    }
+
+-- The state that 14 bytes hold. Registers outside their masks and too large an address decode as they stand: the test of the state is for
+-- the calls.
+unfoldable pub decoded : List ℕ → Bool → Chip
+decoded b redraw = cond (waitingValid (getD b 11 0) (getD b 12 0)) (stateIn b redraw) illFormedState
 
 abbrev pub blockSize : ℕ
 blockSize = 15

@@ -12,7 +12,6 @@ use Rattle.chip.specs.declared.refusal.Answer.{Answer}
 use Rattle.chip.proofs.Laws.Refusals.{all-pass}
 use Rattle.snapshot.specs.Tests.{stateBytes}
 use Rattle.snapshot.specs.Calls.{readTests, readRefusal}
-use Rattle.snapshot.proofs.Laws.Accepted.{state-of}
 use Rattle.input.specs.Read.{WasRead}
 
 pub well-formed : {vram after : List ℕ} {answer : Answer} → WasRead vram answer after → numberOf (answer .refusal) ≡ 0 → wellFormed (answer .chip) ≡ true
@@ -23,4 +22,4 @@ well-formed {vram} {after} {answer} was zero =
     let next : Chip = decoded (stateBytes s) true in
     let held : answer .chip ≡ next = ap (λ (a : Answer). a .chip) (was .answers) ∙ ap (λ (b : Bool). cond b next powerUpState) ok in
     let passed = all-pass (readTests vram s) (refl, (refl, (refl, (refl, (refl, tt))))) ok in
-    ap wellFormed held ∙ state-of (stateBytes s) (passed .1 .1 .1 .1 .0)
+    ap wellFormed held ∙ passed .1 .1 .1 .1 .0
