@@ -145,13 +145,11 @@ described fullDraw =
       BringsBytes = Unit {0};
       establishes = true;
       directly = λ b.
-          draws b (ofAnswer (frame.fullDraw (b .chip) (b .vram) (b .map) (b .frame) (b .notes)))
-          (frame.drawMap (b .chip) (b .vram) (b .map) (b .frame) (b .notes))
+          draws b (ofAnswer (frame.fullDraw (b .chip) (b .vram) (b .map) (b .frame) (b .notes))) (frame.drawMap (b .chip) (b .vram) (b .map) (b .frame) (b .notes))
           (frame.fullDrawFrame (b .chip) (b .vram) (b .map) (b .frame) (b .notes))
           (frame.fullDrawNotes (b .chip) (b .vram) (b .map) (b .frame) (b .notes));
       throughC = λ block b.
-          draws b (ofFromC (c-frames.fullDraw block (b .vram) (b .map) (b .frame) (b .notes)))
-          (c-frames.drawMap block (b .vram) (b .map) (b .frame) (b .notes))
+          draws b (ofFromC (c-frames.fullDraw block (b .vram) (b .map) (b .frame) (b .notes))) (c-frames.drawMap block (b .vram) (b .map) (b .frame) (b .notes))
           (c-frames.fullDrawFrame block (b .vram) (b .map) (b .frame) (b .notes))
           (c-frames.fullDrawNotes block (b .vram) (b .map) (b .frame) (b .notes));
     }
@@ -165,13 +163,11 @@ described refresh =
       BringsBytes = Unit {0};
       establishes = false;
       directly = λ b.
-          draws b (ofAnswer (frame.refresh (b .chip) (b .vram) (b .map) (b .frame) (b .notes)))
-          (frame.drawMap (b .chip) (b .vram) (b .map) (b .frame) (b .notes))
+          draws b (ofAnswer (frame.refresh (b .chip) (b .vram) (b .map) (b .frame) (b .notes))) (frame.drawMap (b .chip) (b .vram) (b .map) (b .frame) (b .notes))
           (frame.refreshFrame (b .chip) (b .vram) (b .map) (b .frame) (b .notes))
           (frame.refreshNotes (b .chip) (b .vram) (b .map) (b .frame) (b .notes));
       throughC = λ block b.
-          draws b (ofFromC (c-frames.refresh block (b .vram) (b .map) (b .frame) (b .notes)))
-          (c-frames.drawMap block (b .vram) (b .map) (b .frame) (b .notes))
+          draws b (ofFromC (c-frames.refresh block (b .vram) (b .map) (b .frame) (b .notes))) (c-frames.drawMap block (b .vram) (b .map) (b .frame) (b .notes))
           (c-frames.refreshFrame block (b .vram) (b .map) (b .frame) (b .notes))
           (c-frames.refreshNotes block (b .vram) (b .map) (b .frame) (b .notes));
     }
