@@ -2,62 +2,68 @@
 use Prim.Native.Nat.{ℕ, _*_}
 use native.Mathlib.Omega.{arith}
 use mathlib.Core.Path.{_≡_, refl, ap, _∙_}
-use mathlib.Core.Bool.{Bool, true, false}
+use mathlib.Core.Bool.{true, false}
 use mathlib.Core.List.{List, [], _∷_}
 use lib.ListN.{length}
+use borrow.Author.Needs.{needs}
 use borrow.Author.Tests.{eqb-true, eq-eqb, ne-eqb}
 use Rattle.chip.specs.Refusals.{numberOf, resultOf, isAccepted, ifAccepted, vramTest, sliceTest}
 use Rattle.chip.specs.Layout.{blockSize, blockOf, chipOf}
 use Rattle.chip.specs.declared.state.Chip.{Chip}
 use Rattle.chip.specs.declared.refusal.Answer.{Answer}
 use Rattle.chip.specs.declared.refusal.Refusal.{Refusal}
-use Rattle.chip.proofs.Laws.Refusals.{is-accepted, all-pass}
+use Rattle.chip.proofs.Laws.Refusals.{all-pass}
 use Rattle.birdcleft.specs.Calls.{blockEntry, vramEntry, resultThrough, blockThrough, listThrough}
 
--- 256 times a refusal's number, which a call tests against 0
-module _ (r : Refusal) {x : ℕ} (number : x ≡ numberOf r * 256) where
-  none : x ≡ 0 → isAccepted r ≡ true
-  none z = eq-eqb (numberOf r) 0 (omega arith)
+-- 256 times the number of a refusal at entry, x, which the call tests against 0.
+module _ (entry : Refusal) {x : ℕ} (number : x ≡ numberOf entry * 256) where
+  passes : x ≡ 0 → isAccepted entry ≡ true
+  passes z = eq-eqb (numberOf entry) 0 (omega arith)
 
-  some : (x ≡ 0 → ⊥) → isAccepted r ≡ false
-  some n = ne-eqb (numberOf r) 0 (λ z. n (number ∙ ap (λ (k : ℕ). k * 256) z))
+  refuses : (x ≡ 0 → ⊥) → isAccepted entry ≡ false
+  refuses n = ne-eqb (numberOf entry) 0 (λ z. n (number ∙ ap (λ (k : ℕ). k * 256) z))
 
 -- Past the tests at entry the block has 15 bytes.
 pub block-fifteen : (block : List ℕ) {x : ℕ} → x ≡ numberOf (blockEntry block) * 256 → x ≡ 0 → length block ≡ 15
+unfolding blockEntry
 block-fifteen block number z =
-    eqb-true _ _ (all-pass (sliceTest blockSize block ∷ []) (refl, tt) (none (blockEntry block) number z) .0)
+    eqb-true _ _ (all-pass (sliceTest blockSize block ∷ []) (refl, tt) (passes (blockEntry block) number z) .0)
 
 pub vram-fifteen : (block vram : List ℕ) {x : ℕ} → x ≡ numberOf (vramEntry block vram) * 256 → x ≡ 0 → length block ≡ 15
+unfolding vramEntry
 vram-fifteen block vram number z =
-    eqb-true _ _ (all-pass (vramTest vram ∷ sliceTest blockSize block ∷ []) (refl, (refl, tt)) (none (vramEntry block vram) number z) .1 .0)
+    eqb-true _ _ (all-pass (vramTest vram ∷ sliceTest blockSize block ∷ []) (refl, (refl, tt)) (passes (vramEntry block vram) number z) .1 .0)
 
--- What every call from C answers and leaves: x is 256 times the number of the refusal at entry.
-module _ {entry : Refusal} {block : List ℕ} {x : ℕ} (number : x ≡ numberOf entry * 256) where
-  -- A call that is refused at entry answers x, and leaves the block and every other list as lent.
-  module _ (refused : x ≡ 0 → ⊥) where
-    pub refused-result : {call : Chip → Answer} → x ≡ resultThrough entry block call
+-- A call that is refused at entry answers x, and leaves the block and every other list as lent. Past the entry the direct call, on the
+-- state s that was loaded, decides.
+module _ (entry : Refusal) (block : List ℕ) (call : Chip → Answer) {x : ℕ} (number : x ≡ numberOf entry * 256) where
+  pub refused-result : (x ≡ 0 → ⊥) → x ≡ resultThrough entry block call
+  unfolding resultThrough
+  refused-result n = rw (refuses entry number n) number
+
+  pub refused-block : (x ≡ 0 → ⊥) → block ≡ blockThrough entry block call
+  unfolding blockThrough
+  refused-block n = rw (refuses entry number n)
+
+  module _ (passed : x ≡ 0) {s : Chip} (loaded : s ≡ chipOf block) {a : Answer} (answer : a ≡ call s) where
+    pub direct-result : {y : ℕ} → y ≡ resultOf a → y ≡ resultThrough entry block call
     unfolding resultThrough
-    refused-result = rw (some entry number refused) number
+    direct-result result = rw (passes entry number passed) (result ∙ ap resultOf (answer ∙ ap call loaded))
 
-    pub refused-block : {call : Chip → Answer} → block ≡ blockThrough entry block call
+    pub direct-block : {b : List ℕ} → b ≡ ifAccepted (a .refusal) (blockOf (a .chip)) block → b ≡ blockThrough entry block call
     unfolding blockThrough
-    refused-block = rw (some entry number refused)
+    direct-block stored =
+        rw (passes entry number passed)
+        (stored ∙ ap (λ (k : Answer). ifAccepted (k .refusal) (blockOf (k .chip)) block) (answer ∙ ap call loaded))
 
-    pub refused-list : {leaves : Chip → List ℕ} {lent : List ℕ} → lent ≡ listThrough entry block leaves lent
-    unfolding listThrough
-    refused-list = rw (some entry number refused)
+module _ (entry : Refusal) (block : List ℕ) (leaves : Chip → List ℕ) (lent : List ℕ) {x : ℕ} (number : x ≡ numberOf entry * 256) where
+  pub refused-list : (x ≡ 0 → ⊥) → lent ≡ listThrough entry block leaves lent
+  unfolding listThrough
+  refused-list n = rw (refuses entry number n)
 
-  -- Past the entry the direct call on the state that is loaded decides.
-  module _ (passed : x ≡ 0) {s : Chip} (loaded : s ≡ chipOf block) where
-    pub direct-result : {call : Chip → Answer} {a : Answer} {y : ℕ} → a ≡ call s → y ≡ resultOf a → y ≡ resultThrough entry block call
-    unfolding resultThrough
-    direct-result {call} answer result = rw (none entry number passed) (result ∙ ap resultOf (answer ∙ ap call loaded))
+  pub direct-list : (passed : x ≡ 0) {s : Chip} → s ≡ chipOf block → {l : List ℕ} → l ≡ leaves s → l ≡ listThrough entry block leaves lent
+  unfolding listThrough
+  direct-list passed loaded left = rw (passes entry number passed) (left ∙ ap leaves loaded)
 
-    pub direct-block : {call : Chip → Answer} {a : Answer} {b : List ℕ} → a ≡ call s → b ≡ ifAccepted (a .refusal) (blockOf (a .chip)) block → b ≡ blockThrough entry block call
-    unfolding blockThrough
-    direct-block {call} answer stored =
-        rw (none entry number passed) (stored ∙ ap (λ (a : Answer). ifAccepted (a .refusal) (blockOf (a .chip)) block) (answer ∙ ap call loaded))
-
-    pub direct-list : {leaves : Chip → List ℕ} {lent l : List ℕ} → l ≡ leaves s → l ≡ listThrough entry block leaves lent
-    unfolding listThrough
-    direct-list {leaves} left = rw (none entry number passed) (left ∙ ap leaves loaded)
+-- What every need of a call from C follows by.
+pub ruleset from-c = (block-fifteen, vram-fifteen, refused-result, refused-block, refused-list, direct-result, direct-block, direct-list, needs)

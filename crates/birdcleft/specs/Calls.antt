@@ -16,10 +16,10 @@ pub record FromC : Type 0 where
 -- The tests at entry, past which the block can be decoded: VRAM's length, where VRAM is lent, and the block's. All others are the direct
 -- call's. So the one order of tests is kept: VRAM's length comes first in it, then the lengths with number 2, of which the block's is one,
 -- and everything else later.
-abbrev pub blockEntry : List ℕ → Refusal
+unfoldable pub blockEntry : List ℕ → Refusal
 blockEntry block = refusalOf (sliceTest blockSize block ∷ [])
 
-abbrev pub vramEntry : List ℕ → List ℕ → Refusal
+unfoldable pub vramEntry : List ℕ → List ℕ → Refusal
 vramEntry block vram = refusalOf (vramTest vram ∷ sliceTest blockSize block ∷ [])
 
 -- The number that a call answers: 256 times the number of the refusal at entry, or the direct call's own.

@@ -16,8 +16,8 @@ use crate::cell::Cell;
 use crate::cell::cell_of;
 use crate::paint::paint_eight;
 use crate::paint::paint_six;
-use crate::pixel::over;
 use crate::pixel::behind_planes;
+use crate::pixel::over;
 use chip::Mode;
 use chip::fill;
 

@@ -47,14 +47,14 @@ module _ (c : Chip) (eight : length (c .registers) ≡ 8) where
   decoded-encoded m =
       chosen (ap₂ waitingValid (after 3) (after 4) ∙ valid (c .waiting)) (stateIn (encoded c) m) illFormedState
       ∙ (λ i.
-          record {
-            registers = take-at (c .registers) rest 8 eight i;
-            address = (ap₂ (λ (l h : ℕ). l + 256 * h) (after 0) (after 1) ∙ mod-add-div (c .address) 256) i;
-            buffer = after 2 i;
-            waiting = (ap₂ waitingOf (after 3) (after 4) ∙ waits (c .waiting)) i;
-            status = after 5 i;
-            redraw = m;
-          })
+      record {
+        registers = take-at (c .registers) rest 8 eight i;
+        address = (ap₂ (λ (l h : ℕ). l + 256 * h) (after 0) (after 1) ∙ mod-add-div (c .address) 256) i;
+        buffer = after 2 i;
+        waiting = (ap₂ waitingOf (after 3) (after 4) ∙ waits (c .waiting)) i;
+        status = after 5 i;
+        redraw = m;
+      })
 
   -- That is well-formed exactly where the state is.
   pub well-formed-encoded : (m : Bool) → wellFormed (decoded (encoded c) m) ≡ wellFormed c
