@@ -25,7 +25,7 @@ dropped true t ts h = passed t ts h
 dropped false t ts h = refl
 
 -- The tests of state and lists pass, so that those of what is the call's own decide.
-own-decides : (b : Bench) → Ready (b .chip) → Lengths b → (d : Description) → refusalOf (tests d b) ≡ refusalOf (d .ownTests (b .chip))
+own-decides : (b : Bench) → Ready (b .chip) → Lengths b → (d : Description) → refusalOf (tests d b) ≡ refusalOf (d .brings .tests (b .chip))
 own-decides b ready lengths d =
     dropped (d .takes .vram) _ _ (eq-eqb _ _ (lengths .vram))
     ∙ dropped (d .takes .map) _ _ (eq-eqb _ _ (lengths .map))
@@ -42,7 +42,7 @@ in-order : {b : Bench} → Invariant b → InOrder b
 unfolding step
 in-order {b} inv =
     let typed : Typed b = record { chip = inv .ready .fits; vram = inv .bytes } in
-    let directly : (op : Op) → step b (whole op direct) .reply .refusal ≡ numberOf (refusalOf (described op .ownTests (b .chip))) =
+    let directly : (op : Op) → step b (whole op direct) .reply .refusal ≡ numberOf (refusalOf (described op .brings .tests (b .chip))) =
     λ op. lawful op .refusal b ∙ ap numberOf (own-decides b (inv .ready) (inv .lengths) (described op)) in (
       inv .ready .well-formed,
       typed,
@@ -60,7 +60,7 @@ in-order {b} inv =
 -- well-formed state, and this says that no list of calls leads to another.
 pub after-any-calls :
     (start : Bench) → Lengths start → Typed start
-    → (first : Call) → described (first .op) .establishes ≡ true → described (first .op) .BringsBytes → step start first .reply .refusal ≡ 0
+    → (first : Call) → described (first .op) .establishes ≡ true → described (first .op) .brings .AreBytes → step start first .reply .refusal ≡ 0
     → (calls : List Call) → CallsBytes calls
     → InOrder (run (step start first .bench) calls)
 after-any-calls start lengths typed first does brings accepted calls bytes =

@@ -19,6 +19,7 @@ use Rattle.birdcleft.specs.Snapshots.{readSnapshot, readVram}
 
 -- past the tests at entry
 entry : (block vram : List ℕ) → length block ≡ blockSize → length vram ≡ vramSize → vramEntry block vram ≡ Accepted
+unfolding vramEntry
 entry block vram fifteen long = all-accepted (vramTest vram ∷ sliceTest blockSize block ∷ []) (eq-eqb _ _ long, (eq-eqb _ _ fifteen, tt))
 
 -- From C with any 15 bytes in the block, power-up of 16,384 bytes of VRAM is accepted; the block then holds the power-up state,

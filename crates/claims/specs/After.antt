@@ -2,22 +2,23 @@
 use Prim.Native.Nat.{ℕ, _<_}
 use mathlib.Core.Path.{_≡_}
 use mathlib.Core.Bool.{Bool, true, false, _&&_, _||_}
-use mathlib.Core.List.{[], _∷_}
-use lib.ListN.{getD, replicate}
+use mathlib.Core.List.{List, [], _∷_}
+use lib.ListN.{length, getD, replicate}
 use Rattle.chip.specs.State.{wellFormed}
+use Rattle.chip.specs.Map.{mapSize}
 use Rattle.chip.specs.Refusals.{numberOf, refusalOf}
 use Rattle.scanline.specs.Calls.{noteAt, colours}
-use Rattle.frame.specs.Lines.{lineCount, lineAt}
+use Rattle.frame.specs.Lines.{lineCount, frameSize, notesSize, lineAt}
 use Rattle.frame.specs.Due.{due, dueCount}
 use Rattle.claims.specs.Bench.{Bench, Lengths, Typed}
-use Rattle.claims.specs.Call.{Op, Lent, own, other, LentLists, Caller, direct, fromC, Call, whole}
+use Rattle.claims.specs.Call.{Op, fullDraw, refresh, Lent, own, other, LentLists, Caller, direct, fromC, Call, whole}
 use Rattle.claims.specs.Description.{Takes, Description}
 use Rattle.claims.specs.Descriptions.{described}
 use Rattle.claims.specs.Step.{Step, step}
 
 -- The step of a refused call: the bench is as it was, the slices are as lent, and every number answered is 0.
 abbrev pub refusedStep : Description → ℕ → Bench → Step
-refusedStep d n b = record { bench = b; reply = record { refusal = n; values = replicate (d .numbers) 0; slices = d .ownSlices } }
+refusedStep d n b = record { bench = b; reply = record { refusal = n; values = replicate (d .numbers) 0; slices = d .brings .slices } }
 
 -- A call left all as it was.
 abbrev pub LeftAsLent : Bench → Call → Step → Type 0
@@ -50,7 +51,16 @@ InOrder b =
     (wellFormed (b .chip) ≡ true)
     × Typed b
     × Lengths b
-    × ((op : Op) → let n = numberOf (refusalOf (described op .ownTests (b .chip))) in (step b (whole op direct) .reply .refusal ≡ n) × (step b (whole op (fromC own)) .reply .refusal ≡ n))
+    × ((op : Op) → let n = numberOf (refusalOf (described op .brings .tests (b .chip))) in (step b (whole op direct) .reply .refusal ≡ n) × (step b (whole op (fromC own)) .reply .refusal ≡ n))
+
+-- Every refresh of b that is accepted, called directly or from C, leaves the same bench (state, VRAM, map, frame and notes) as a
+-- full draw from the same state and VRAM into any map, frame and notes of the right lengths; and that full draw is accepted.
+abbrev pub RefreshIsFullDraw : Bench → Type 0
+RefreshIsFullDraw b =
+    (last : Call) → last .op ≡ refresh → step b last .reply .refusal ≡ 0
+    → (map frame notes : List ℕ) → length map ≡ mapSize → length frame ≡ frameSize → length notes ≡ notesSize
+    → let full = step (record { chip = b .chip; vram = b .vram; map = map; frame = frame; notes = notes }) (whole fullDraw direct) in
+    (full .reply .refusal ≡ 0) × (step b last .bench ≡ full .bench)
 
 -- What an accepted refresh of b does, whatever bytes frame, notes and map hold: it answers how many lines are due; a due line
 -- gets the 256 bytes and the note of a full draw, and every other keeps both.

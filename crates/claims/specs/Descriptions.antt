@@ -1,7 +1,6 @@
 -- The description of each call.
-use Prim.Native.Nat.{ℕ, _<_}
 use mathlib.Core.Bool.{true, false}
-use mathlib.Core.List.{List, [], _∷_}
+use mathlib.Core.List.{[], _∷_}
 use Rattle.chip.specs.State.{Bytes}
 use Rattle.chip.specs.Refusals.{sliceTest, lineTest}
 use Rattle.chip.specs.Calls as chip
@@ -13,42 +12,36 @@ use Rattle.birdcleft.specs.Calls as c-ports
 use Rattle.birdcleft.specs.Lines as c-lines
 use Rattle.birdcleft.specs.Frames as c-frames
 use Rattle.birdcleft.specs.Snapshots as c-snapshots
-use Rattle.claims.specs.Call.{Op, powerUp, controlWrite, dataWrite, dataRead, statusRead, endOfDisplay, interruptLine, reset, drawLine, fullDraw, refresh, readSnapshot, writeSnapshot}
-use Rattle.claims.specs.Description.{Description, noList, vramAlone, vramAndMap, allLists, ofAnswer, ofResult, ofFromC, answers, fills, replaces, writes, draws}
+use Rattle.claims.specs.Call.{Op}
+use Rattle.claims.specs.Description.{Description, noList, vramAlone, vramAndMap, allLists, nothing, aByte, ofAnswer, ofResult, ofFromC, answers, fills, replaces, writes, draws}
 
 abbrev pub described : Op → Description
-described powerUp =
+described Op.powerUp =
     record {
       takes = vramAlone;
       testsState = false;
-      ownTests = λ c. [];
-      ownSlices = [];
+      brings = nothing;
       numbers = 1;
-      BringsBytes = Unit {0};
       establishes = true;
       directly = λ b. replaces b (ofAnswer (chip.powerUp (b .chip) (b .vram))) (chip.powerUpVram (b .vram));
       throughC = λ block b. replaces b (ofFromC (c-ports.powerUp block (b .vram))) (c-ports.powerUpVram block (b .vram));
     }
-described (controlWrite x) =
+described (Op.controlWrite x) =
     record {
       takes = vramAlone;
       testsState = true;
-      ownTests = λ c. [];
-      ownSlices = [];
+      brings = aByte x;
       numbers = 1;
-      BringsBytes = x < 256;
       establishes = false;
       directly = λ b. answers b (ofAnswer (chip.controlWrite (b .chip) (b .vram) x));
       throughC = λ block b. answers b (ofFromC (c-ports.controlWrite block (b .vram) x));
     }
-described (dataWrite x) =
+described (Op.dataWrite x) =
     record {
       takes = vramAndMap;
       testsState = true;
-      ownTests = λ c. [];
-      ownSlices = [];
+      brings = aByte x;
       numbers = 1;
-      BringsBytes = x < 256;
       establishes = false;
       directly = λ b.
           writes b (ofAnswer (chip.dataWrite (b .chip) (b .vram) (b .map) x))
@@ -59,74 +52,62 @@ described (dataWrite x) =
           (c-ports.dataWriteVram block (b .vram) (b .map) x)
           (c-ports.dataWriteMap block (b .vram) (b .map));
     }
-described dataRead =
+described Op.dataRead =
     record {
       takes = vramAlone;
       testsState = true;
-      ownTests = λ c. [];
-      ownSlices = [];
+      brings = nothing;
       numbers = 1;
-      BringsBytes = Unit {0};
       establishes = false;
       directly = λ b. answers b (ofAnswer (chip.dataRead (b .chip) (b .vram)));
       throughC = λ block b. answers b (ofFromC (c-ports.dataRead block (b .vram)));
     }
-described statusRead =
+described Op.statusRead =
     record {
       takes = noList;
       testsState = true;
-      ownTests = λ c. [];
-      ownSlices = [];
+      brings = nothing;
       numbers = 1;
-      BringsBytes = Unit {0};
       establishes = false;
       directly = λ b. answers b (ofAnswer (chip.statusRead (b .chip)));
       throughC = λ block b. answers b (ofFromC (c-ports.statusRead block));
     }
-described endOfDisplay =
+described Op.endOfDisplay =
     record {
       takes = noList;
       testsState = true;
-      ownTests = λ c. [];
-      ownSlices = [];
+      brings = nothing;
       numbers = 1;
-      BringsBytes = Unit {0};
       establishes = false;
       directly = λ b. answers b (ofAnswer (chip.endOfDisplay (b .chip)));
       throughC = λ block b. answers b (ofFromC (c-ports.endOfDisplay block));
     }
-described interruptLine =
+described Op.interruptLine =
     record {
       takes = noList;
       testsState = true;
-      ownTests = λ c. [];
-      ownSlices = [];
+      brings = nothing;
       numbers = 1;
-      BringsBytes = Unit {0};
       establishes = false;
       directly = λ b. answers b (ofAnswer (chip.interruptLine (b .chip)));
       throughC = λ block b. answers b (ofResult block (c-ports.interruptLine block));
     }
-described reset =
+described Op.reset =
     record {
       takes = noList;
       testsState = true;
-      ownTests = λ c. [];
-      ownSlices = [];
+      brings = nothing;
       numbers = 1;
-      BringsBytes = Unit {0};
       establishes = true;
       directly = λ b. answers b (ofAnswer (chip.reset (b .chip)));
       throughC = λ block b. answers b (ofFromC (c-ports.reset block));
     }
-described (drawLine line l) =
+described (Op.drawLine line l) =
     record {
       takes = vramAlone;
       testsState = true;
-      ownTests = λ c. sliceTest scanline.lineSize line ∷ lineTest l ∷ [];
-      ownSlices = line ∷ [];
+      brings = record { tests = λ c. sliceTest scanline.lineSize line ∷ lineTest l ∷ []; slices = line ∷ []; AreBytes = Unit {0} };
       numbers = 1;
-      BringsBytes = Unit {0};
       establishes = false;
       directly = λ b.
           fills b (ofAnswer (scanline.drawLine (b .chip) (b .vram) line l))
@@ -135,14 +116,12 @@ described (drawLine line l) =
           fills b (ofFromC (c-lines.drawLine block (b .vram) line l))
           (c-lines.drawLineLine block (b .vram) line l ∷ []);
     }
-described fullDraw =
+described Op.fullDraw =
     record {
       takes = allLists;
       testsState = true;
-      ownTests = λ c. [];
-      ownSlices = [];
+      brings = nothing;
       numbers = 1;
-      BringsBytes = Unit {0};
       establishes = true;
       directly = λ b.
           draws b (ofAnswer (frame.fullDraw (b .chip) (b .vram) (b .map) (b .frame) (b .notes))) (frame.drawMap (b .chip) (b .vram) (b .map) (b .frame) (b .notes))
@@ -153,14 +132,12 @@ described fullDraw =
           (c-frames.fullDrawFrame block (b .vram) (b .map) (b .frame) (b .notes))
           (c-frames.fullDrawNotes block (b .vram) (b .map) (b .frame) (b .notes));
     }
-described refresh =
+described Op.refresh =
     record {
       takes = allLists;
       testsState = true;
-      ownTests = λ c. [];
-      ownSlices = [];
+      brings = nothing;
       numbers = 1;
-      BringsBytes = Unit {0};
       establishes = false;
       directly = λ b.
           draws b (ofAnswer (frame.refresh (b .chip) (b .vram) (b .map) (b .frame) (b .notes))) (frame.drawMap (b .chip) (b .vram) (b .map) (b .frame) (b .notes))
@@ -171,26 +148,22 @@ described refresh =
           (c-frames.refreshFrame block (b .vram) (b .map) (b .frame) (b .notes))
           (c-frames.refreshNotes block (b .vram) (b .map) (b .frame) (b .notes));
     }
-described (readSnapshot s) =
+described (Op.readSnapshot s) =
     record {
       takes = vramAlone;
       testsState = false;
-      ownTests = λ c. sizeTest s ∷ trailerTest s ∷ sumTest s ∷ contentsTest s ∷ [];
-      ownSlices = [];
+      brings = record { tests = λ c. sizeTest s ∷ trailerTest s ∷ sumTest s ∷ contentsTest s ∷ []; slices = []; AreBytes = Bytes s };
       numbers = 1;
-      BringsBytes = Bytes s;
       establishes = true;
       directly = λ b. replaces b (ofAnswer (snapshot.readSnapshot (b .chip) (b .vram) s)) (snapshot.readVram (b .vram) s);
       throughC = λ block b. replaces b (ofFromC (c-snapshots.readSnapshot block (b .vram) s)) (c-snapshots.readVram block (b .vram) s);
     }
-described (writeSnapshot s) =
+described (Op.writeSnapshot s) =
     record {
       takes = vramAlone;
       testsState = true;
-      ownTests = λ c. sizeTest s ∷ [];
-      ownSlices = s ∷ [];
+      brings = record { tests = λ c. sizeTest s ∷ []; slices = s ∷ []; AreBytes = Unit {0} };
       numbers = 1;
-      BringsBytes = Unit {0};
       establishes = false;
       directly = λ b. fills b (ofAnswer (snapshot.writeSnapshot (b .chip) (b .vram) s)) (snapshot.written (b .chip) (b .vram) s ∷ []);
       throughC = λ block b.

@@ -74,4 +74,4 @@ run b (call ∷ calls) = run (step b call .bench) calls
 -- That the bytes which a list of calls brings are bytes.
 abbrev pub CallsBytes : List Call → Type 0
 CallsBytes [] = Unit {0}
-CallsBytes (call ∷ calls) = described (call .op) .BringsBytes × CallsBytes calls
+CallsBytes (call ∷ calls) = described (call .op) .brings .AreBytes × CallsBytes calls

@@ -1,21 +1,20 @@
 -- The laws of each call.
 use Prim.Native.Nat.{ℕ, _-_, _≤_, _<_}
 use native.Mathlib.Omega.{arith}
-use mathlib.Core.Path.{_≡_, refl, ap, _∙_}
-use mathlib.Core.Bool.{Bool, true, false, cond}
-use mathlib.Core.List.{List, [], _∷_}
+use mathlib.Core.Path.{_≡_, refl, _∙_}
+use mathlib.Core.Bool.{true}
+use mathlib.Core.List.{List}
 use lib.Dec.{eqb, lit<}
 use lib.ListN.{length, set, length-set, length-replicate}
 use mir.Val.{boolByte}
 use borrow.Author.Tests.{eqb-true}
-use Rattle.chip.specs.State.{Bytes, Fits, vramSize, powerUpState, wellFormed}
+use Rattle.chip.specs.State.{Bytes, vramSize, powerUpState, wellFormed}
 use Rattle.chip.specs.Ports.{clearedVram, interruptOn, control}
 use Rattle.chip.specs.Layout.{decoded}
-use Rattle.chip.specs.Refusals.{isAccepted, refusalOf}
 use Rattle.chip.specs.declared.state.Chip.{Chip}
 use Rattle.chip.proofs.Laws.Layout.{fits-decoded}
 use Rattle.chip.proofs.Laws.Lists.{bytes-zeros}
-use Rattle.chip.proofs.Laws.Refusals.{AllPass, all-pass}
+use Rattle.chip.proofs.Laws.Refusals.{all-pass}
 use Rattle.scanline.specs.Calls.{noteAt}
 use Rattle.frame.specs.Lines.{lineCount}
 use Rattle.frame.specs.Due.{due, dueCount}
@@ -23,9 +22,9 @@ use Rattle.frame.proofs.Laws.Lines.{bit-small, count-le}
 use Rattle.snapshot.specs.Tests.{stateBytes, vramBytes, trailerAt}
 use Rattle.snapshot.proofs.Laws.Bytes.{bytes-part}
 use Rattle.snapshot.proofs.Laws.Parts.{length-state, length-vram}
-use Rattle.birdcleft.specs.Calls.{resultThrough, blockThrough, listThrough}
+use Rattle.birdcleft.specs.Calls.{blockEntry, vramEntry, resultThrough, blockThrough, listThrough}
 use Rattle.claims.specs.Bench.{Bench, Typed}
-use Rattle.claims.specs.Call.{Op, powerUp, controlWrite, dataWrite, dataRead, statusRead, endOfDisplay, interruptLine, reset, drawLine, fullDraw, refresh, readSnapshot, writeSnapshot}
+use Rattle.claims.specs.Call.{Op}
 use Rattle.claims.specs.Description.{tests}
 use Rattle.claims.specs.Descriptions.{described}
 use Rattle.claims.proofs.Laws.States.{Ready, ready-power-up, ready-control, ready-read, ready-status-read, ready-ended, ready-reset, ready-line, decoded-eight, decoded-redraw}
@@ -64,122 +63,122 @@ unfolding vramBytes
 vram-bytes s bytes = bytes-part (trailerAt s - 16398) 16384 s bytes
 
 pub lawful : (op : Op) → Lawful (described op)
-unfolding resultThrough blockThrough listThrough
-lawful powerUp =
+unfolding blockEntry vramEntry resultThrough blockThrough listThrough
+lawful Op.powerUp =
     record {
       refusal = λ b. refl;
-      own-refuse = λ c. tt;
+      can-refuse = λ c. tt;
       refused = λ b e. rw e;
       not-entered = λ block b e. by-number _ (rw e);
-      entered = λ b fits e. stores (described powerUp) b fits 0 (lit< tt) refl (rw e) refl (λ n. rw n) (λ ok. rw ok refl);
+      entered = λ b fits e. stores (described Op.powerUp) b fits 0 (lit< tt) refl (rw e) refl (λ n. rw n) (λ ok. rw ok refl);
       effect = λ b h lengths typed p ok. rw ok (sets-mark powerUpState clearedVram refl ready-power-up refl (length-replicate {A = ℕ} vramSize 0) (bytes-zeros vramSize));
     }
-lawful (controlWrite x) =
+lawful (Op.controlWrite x) =
     record {
       refusal = λ b. refl;
-      own-refuse = λ c. tt;
+      can-refuse = λ c. tt;
       refused = λ b e. rw e;
       not-entered = λ block b e. by-number _ (rw e);
-      entered = λ b fits e. stores (described (controlWrite x)) b fits 0 (lit< tt) refl (rw e) refl (λ n. rw n) (λ ok. rw ok (control-eight x (b .vram) (b .chip) (fits .eight)));
+      entered = λ b fits e. stores (described (Op.controlWrite x)) b fits 0 (lit< tt) refl (rw e) refl (λ n. rw n) (λ ok. rw ok (control-eight x (b .vram) (b .chip) (fits .eight)));
       effect = λ b h lengths typed p ok. rw ok (state-effect (control x (b .vram) (b .chip)) lengths typed refl (ready-control (passed-test typed (p .1 .0)) (b .vram) (typed .vram) x h) (control-redraws x (b .vram) (b .chip)));
     }
-lawful (dataWrite x) =
+lawful (Op.dataWrite x) =
     record {
       refusal = λ b. refl;
-      own-refuse = λ c. tt;
+      can-refuse = λ c. tt;
       refused = λ b e. rw e;
       not-entered = λ block b e. by-number _ (rw e);
-      entered = λ b fits e. stores (described (dataWrite x)) b fits 0 (lit< tt) refl (rw e) refl (λ n. rw n) (λ ok. rw ok (fits .eight));
+      entered = λ b fits e. stores (described (Op.dataWrite x)) b fits 0 (lit< tt) refl (rw e) refl (λ n. rw n) (λ ok. rw ok (fits .eight));
       effect = λ b h lengths typed p ok. rw ok (writes-byte x refl refl h);
     }
-lawful dataRead =
+lawful Op.dataRead =
     record {
       refusal = λ b. refl;
-      own-refuse = λ c. tt;
+      can-refuse = λ c. tt;
       refused = λ b e. rw e;
       not-entered = λ block b e. by-number _ (rw e);
-      entered = λ b fits e. stores (described dataRead) b fits (b .chip .buffer) (fits .buffer) refl (rw e) refl (λ n. rw n) (λ ok. rw ok (fits .eight));
+      entered = λ b fits e. stores (described Op.dataRead) b fits (b .chip .buffer) (fits .buffer) refl (rw e) refl (λ n. rw n) (λ ok. rw ok (fits .eight));
       effect = λ b h lengths typed p ok. rw ok (changes-no-line _ refl refl (ready-read (passed-test typed (p .1 .0)) (b .vram) (typed .vram)) refl refl);
     }
-lawful statusRead =
+lawful Op.statusRead =
     record {
       refusal = λ b. refl;
-      own-refuse = λ c. tt;
+      can-refuse = λ c. tt;
       refused = λ b e. rw e;
       not-entered = λ block b e. by-number _ (rw e);
-      entered = λ b fits e. stores (described statusRead) b fits (b .chip .status) (fits .status) refl (rw e) refl (λ n. rw n) (λ ok. rw ok (fits .eight));
+      entered = λ b fits e. stores (described Op.statusRead) b fits (b .chip .status) (fits .status) refl (rw e) refl (λ n. rw n) (λ ok. rw ok (fits .eight));
       effect = λ b h lengths typed p ok. rw ok (changes-no-line _ refl refl (ready-status-read (passed-test typed (p .0))) refl refl);
     }
-lawful endOfDisplay =
+lawful Op.endOfDisplay =
     record {
       refusal = λ b. refl;
-      own-refuse = λ c. tt;
+      can-refuse = λ c. tt;
       refused = λ b e. rw e;
       not-entered = λ block b e. by-number _ (rw e);
-      entered = λ b fits e. stores (described endOfDisplay) b fits 0 (lit< tt) refl (rw e) refl (λ n. rw n) (λ ok. rw ok (fits .eight));
+      entered = λ b fits e. stores (described Op.endOfDisplay) b fits 0 (lit< tt) refl (rw e) refl (λ n. rw n) (λ ok. rw ok (fits .eight));
       effect = λ b h lengths typed p ok. rw ok (changes-no-line _ refl refl (ready-ended (passed-test typed (p .0))) refl refl);
     }
-lawful interruptLine =
+lawful Op.interruptLine =
     record {
       refusal = λ b. refl;
-      own-refuse = λ c. tt;
+      can-refuse = λ c. tt;
       refused = λ b e. rw e;
       not-entered = λ block b e. by-number _ (rw e);
-      entered = λ b fits e. only-reads (described interruptLine) b fits _ (line-small (b .chip)) refl (rw e) (λ n. rw n) (λ ok. rw ok);
+      entered = λ b fits e. only-reads (described Op.interruptLine) b fits _ (line-small (b .chip)) refl (rw e) (λ n. rw n) (λ ok. rw ok);
       effect = λ b h lengths typed p ok. rw ok (changes-no-line _ refl refl (passed-test typed (p .0)) refl refl);
     }
-lawful reset =
+lawful Op.reset =
     record {
       refusal = λ b. refl;
-      own-refuse = λ c. tt;
+      can-refuse = λ c. tt;
       refused = λ b e. rw e;
       not-entered = λ block b e. by-number _ (rw e);
-      entered = λ b fits e. let r = b .chip .registers in stores (described reset) b fits 0 (lit< tt) refl (rw e) refl (λ n. rw n) (λ ok. rw ok (length-set (set r 0 0) 1 0 ∙ length-set r 0 0 ∙ fits .eight));
+      entered = λ b fits e. let r = b .chip .registers in stores (described Op.reset) b fits 0 (lit< tt) refl (rw e) refl (λ n. rw n) (λ ok. rw ok (length-set (set r 0 0) 1 0 ∙ length-set r 0 0 ∙ fits .eight));
       effect = λ b h lengths typed p ok. rw ok (sets-mark _ (b .vram) refl (ready-reset (passed-test typed (p .0))) refl (lengths .vram) (typed .vram));
     }
-lawful (drawLine line l) =
+lawful (Op.drawLine line l) =
     record {
       refusal = λ b. refl;
-      own-refuse = λ c. (refl, (refl, tt));
+      can-refuse = λ c. (refl, (refl, tt));
       refused = λ b e. rw e;
       not-entered = λ block b e. by-number _ (rw e);
-      entered = λ b fits e. stores (described (drawLine line l)) b fits 0 (lit< tt) refl (rw e) refl (λ n. rw n) (λ ok. rw ok (fits .eight));
+      entered = λ b fits e. stores (described (Op.drawLine line l)) b fits 0 (lit< tt) refl (rw e) refl (λ n. rw n) (λ ok. rw ok (fits .eight));
       effect = λ b h lengths typed p ok. rw ok (changes-no-line _ refl refl (ready-line (passed-test typed (p .1 .0)) (noteAt (b .chip .registers) (b .vram) l)) refl refl);
     }
-lawful fullDraw =
+lawful Op.fullDraw =
     record {
       refusal = λ b. refl;
-      own-refuse = λ c. tt;
+      can-refuse = λ c. tt;
       refused = λ b e. rw e;
       not-entered = λ block b e. by-number _ (rw e);
-      entered = λ b fits e. stores (described fullDraw) b fits 0 (lit< tt) refl (rw e) refl (λ n. rw n) (λ ok. rw ok (fits .eight));
+      entered = λ b fits e. stores (described Op.fullDraw) b fits 0 (lit< tt) refl (rw e) refl (λ n. rw n) (λ ok. rw ok (fits .eight));
       effect = λ b h lengths typed p ok. draws-all (full-drawn b ok) (passed-test typed (p .1 .1 .1 .1 .0));
     }
-lawful refresh =
+lawful Op.refresh =
     record {
       refusal = λ b. refl;
-      own-refuse = λ c. tt;
+      can-refuse = λ c. tt;
       refused = λ b e. rw e;
       not-entered = λ block b e. by-number _ (rw e);
-      entered = λ b fits e. stores (described refresh) b fits _ (count-small b) refl (rw e) refl (λ n. rw n) (λ ok. rw ok (fits .eight));
+      entered = λ b fits e. stores (described Op.refresh) b fits _ (count-small b) refl (rw e) refl (λ n. rw n) (λ ok. rw ok (fits .eight));
       effect = λ b h lengths typed p ok. refreshes refl (due-drawn b ok);
     }
-lawful (readSnapshot s) =
+lawful (Op.readSnapshot s) =
     record {
       refusal = λ b. refl;
-      own-refuse = λ c. (refl, (refl, (refl, (refl, tt))));
+      can-refuse = λ c. (refl, (refl, (refl, (refl, tt))));
       refused = λ b e. rw e;
       not-entered = λ block b e. by-number _ (rw e);
-      entered = λ b fits e. stores (described (readSnapshot s)) b fits 0 (lit< tt) refl (rw e) refl (λ n. rw n)
-          (λ ok. let p = all-pass (tests (described (readSnapshot s)) b) (refl, (refl, (refl, (refl, (refl, tt))))) ok in rw ok (decoded-eight (stateBytes s) (long-state s (p .1 .0))));
+      entered = λ b fits e. stores (described (Op.readSnapshot s)) b fits 0 (lit< tt) refl (rw e) refl (λ n. rw n)
+          (λ ok. let p = all-pass (tests (described (Op.readSnapshot s)) b) (refl, (refl, (refl, (refl, (refl, tt))))) ok in rw ok (decoded-eight (stateBytes s) (long-state s (p .1 .0))));
       effect = λ b h lengths typed p ok. rw ok (sets-mark (decoded (stateBytes s) true) (vramBytes s) refl (ready-held s (p .1 .0) h (p .1 .1 .1 .1 .0)) (decoded-redraw (stateBytes s)) (vram-held s (p .1 .0)) (vram-bytes s h));
     }
-lawful (writeSnapshot s) =
+lawful (Op.writeSnapshot s) =
     record {
       refusal = λ b. refl;
-      own-refuse = λ c. (refl, tt);
+      can-refuse = λ c. (refl, tt);
       refused = λ b e. rw e;
       not-entered = λ block b e. by-number _ (rw e);
-      entered = λ b fits e. only-reads (described (writeSnapshot s)) b fits 0 (lit< tt) refl (rw e) (λ n. rw n) (λ ok. rw ok);
+      entered = λ b fits e. only-reads (described (Op.writeSnapshot s)) b fits 0 (lit< tt) refl (rw e) (λ n. rw n) (λ ok. rw ok);
       effect = λ b h lengths typed p ok. rw ok (changes-no-line _ refl refl (passed-test typed (p .1 .0)) refl refl);
     }

@@ -10,19 +10,18 @@ use Rattle.chip.specs.State.{Fits}
 use Rattle.chip.specs.Layout.{blockSize, blockOf, chipOf}
 use Rattle.chip.specs.Refusals.{Test, numberOf, isAccepted, refusalOf, ifAccepted, vramTest, sliceTest}
 use Rattle.chip.specs.declared.state.Chip.{Chip}
-use Rattle.chip.specs.declared.refusal.Refusal.{Refusal}
 use Rattle.chip.specs.declared.refusal.Refusal.the-variants.{Accepted}
 use Rattle.chip.proofs.Laws.Layout.{chip-block}
 use Rattle.chip.proofs.Laws.Refusals.{AllPass, AllRefuse}
 use Rattle.claims.specs.Bench.{Bench, Lengths, Typed}
-use Rattle.claims.specs.Description.{Left, Description, testIf, tests, Answered, ofResult, leaves}
+use Rattle.claims.specs.Description.{Left, Description, testIf, tests, ofResult, leaves}
 use Rattle.claims.proofs.Laws.States.{either-byte}
 use Rattle.claims.proofs.Laws.Invariant.{bench, withState, Effect}
 
 module _ {S : Type 0} where
   -- What a call leaves that is refused with the number n.
   abbrev pub asLent : Description → ℕ → S → Bench → Left S
-  asLent d n s b = leaves (record { state = s; refusal = n; values = replicate (d .numbers) 0 }) (b .vram) (b .map) (b .frame) (b .notes) (d .ownSlices)
+  asLent d n s b = leaves (record { state = s; refusal = n; values = replicate (d .numbers) 0 }) (b .vram) (b .map) (b .frame) (b .notes) (d .brings .slices)
 
 -- The bench that a direct call leaves, and what a call from C leaves with its block decoded.
 abbrev pub benchOf : Left Chip → Bench
@@ -38,14 +37,14 @@ entryTests d block b = testIf (d .takes .vram) (vramTest (b .vram)) (sliceTest b
 pub record Lawful (d : Description) : Type 0 where
   -- Its tests are those by what it takes, then its own; each can refuse it.
   pub refusal : (b : Bench) → d .directly b .reply .refusal ≡ numberOf (refusalOf (tests d b))
-  pub own-refuse : (c : Chip) → AllRefuse (d .ownTests c)
+  pub can-refuse : (c : Chip) → AllRefuse (d .brings .tests c)
   -- Refused, it leaves everything.
   pub refused : (b : Bench) → isAccepted (refusalOf (tests d b)) ≡ false → d .directly b ≡ asLent d (numberOf (refusalOf (tests d b))) (b .chip) b
   -- From C, refused at entry it leaves everything; past that, with the state's own block, it is the direct call.
   pub not-entered : (block : List ℕ) (b : Bench) → let r = refusalOf (entryTests d block b) in isAccepted r ≡ false → d .throughC block b ≡ asLent d (numberOf r) block b
   pub entered : (b : Bench) → Fits (b .chip) → let block = blockOf (b .chip) in isAccepted (refusalOf (entryTests d block b)) ≡ true → decodedLeft (d .throughC block b) ≡ d .directly b
   -- Accepted, it has one of the effects.
-  pub effect : (b : Bench) → d .BringsBytes → Lengths b → Typed b → AllPass (tests d b) → refusalOf (tests d b) ≡ Accepted → Effect (d .establishes) b (benchOf (d .directly b))
+  pub effect : (b : Bench) → d .brings .AreBytes → Lengths b → Typed b → AllPass (tests d b) → refusalOf (tests d b) ≡ Accepted → Effect (d .establishes) b (benchOf (d .directly b))
 
 -- What follows is for the calls whose numbers come from C in one result, 256 times the refusal number plus the number read.
 

@@ -7,10 +7,9 @@ use lib.Dec.{eqb}
 use lib.ListN.{length}
 use borrow.Author.Tests.{eqb-true, eqb-false, eq-eqb}
 use Rattle.chip.specs.State.{Fits, vramSize}
-use Rattle.chip.specs.Layout.{blockSize, blockOf, chipOf}
+use Rattle.chip.specs.Layout.{blockSize, blockOf}
 use Rattle.chip.specs.Refusals.{Test, numberOf, isAccepted, refusalOf, vramTest, sliceTest}
 use Rattle.chip.specs.declared.state.Chip.{Chip}
-use Rattle.chip.specs.declared.refusal.Refusal.{Refusal}
 use Rattle.chip.proofs.Laws.Layout.{chip-block, length-block}
 use Rattle.chip.proofs.Laws.Refusals.{AllPass, AllRefuse, all-pass, all-accepted, differ}
 use Rattle.claims.specs.Bench.{Bench}
@@ -60,7 +59,7 @@ module _ {d : Description} (law : Lawful d) (lists : LentLists) (b : Bench) wher
 
   all-refuse : AllRefuse (tests d lends)
   all-refuse =
-      refuse-if (d .takes .vram) _ _ refl (refuse-if (d .takes .map) _ _ refl (refuse-if (d .takes .frame) _ _ refl (refuse-if (d .takes .notes) _ _ refl (refuse-if (d .testsState) _ _ refl (law .own-refuse (b .chip))))))
+      refuse-if (d .takes .vram) _ _ refl (refuse-if (d .takes .map) _ _ refl (refuse-if (d .takes .frame) _ _ refl (refuse-if (d .takes .notes) _ _ refl (refuse-if (d .testsState) _ _ refl (law .can-refuse (b .chip))))))
 
   -- refused, by whichever tests
   left-all : (n : ℕ) → back (asLent d n (b .chip) lends) ≡ refusedStep d n b

@@ -1,16 +1,16 @@
 -- States that are well-formed and whose values fit their types: each operation hands back such a state.
-use Prim.Native.Nat.{ℕ, zero, suc, _+_, _*_, _/_, _%_, _≤_, _<_}
+use Prim.Native.Nat.{ℕ, _+_, _*_, _/_, _%_, _≤_, _<_}
 use native.Mathlib.Omega.{arith}
 use mathlib.Core.Path.{_≡_, refl, _∙_}
 use mathlib.Core.Bool.{Bool, true, false, cond, not, _&&_}
 use mathlib.Core.List.{List, [], _∷_}
 use lib.Bits.{or-lt}
 use lib.Dec.{ltb, leb, lit<}
-use lib.ListN.{length, getD, set, take, length-set}
+use lib.ListN.{length, getD, set, length-set}
 use lib.Seq.{length-take-le}
 use borrow.Author.Tests.{ltb-true, le-leb}
 use Rattle.chip.specs.Bits.{bit, setBit}
-use Rattle.chip.specs.State.{Bytes, Fits, byteOf, waitingOf, kept, masked, wellFormed, powerUpState, Change, registersTo, addressTo, bufferTo, waitingTo, statusTo, redrawTo, changed, withRegisters, withStatus}
+use Rattle.chip.specs.State.{Bytes, Fits, byteOf, kept, masked, wellFormed, powerUpState, Change, registersTo, addressTo, bufferTo, waitingTo, statusTo, redrawTo, changed, withRegisters, withStatus}
 use Rattle.chip.specs.Ports.{nextAddress, prefetched, registerWritten, controlBy, control, dataWritten, afterDataRead, afterStatusRead, displayEnded, wasReset}
 use Rattle.chip.specs.Layout.{illFormedState, waitingValid, stateIn, decoded}
 use Rattle.chip.specs.declared.state.Chip.{Chip}

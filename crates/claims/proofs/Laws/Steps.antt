@@ -1,7 +1,6 @@
 -- The step of each call: how it comes out, and that it keeps the invariant or establishes it.
-use Prim.Native.Nat.{ℕ}
 use mathlib.Core.Path.{_≡_, refl, sym, ap, subst, subst⁻¹, _∙_}
-use mathlib.Core.Bool.{Bool, true, false}
+use mathlib.Core.Bool.{Bool, true}
 use mathlib.Core.List.{List, [], _∷_}
 use Rattle.chip.specs.State.{Fits}
 use Rattle.chip.proofs.Laws.Refusals.{AllPass, all-accepted}
@@ -29,10 +28,10 @@ module _ (b : Bench) (fits : Fits (b .chip)) (call : Call) where
       by (accepted p own same) = (subst (λ (k : Op). AllPass (tests (described k) b)) is p, same ∙ ap (λ (k : Op). stepped (described k .directly b)) is)
       by (refused n some same) = absurd (some (sym (ap (λ (s : Step). s .reply .refusal) same) ∙ zero))
 
-effect : (b : Bench) → Lengths b → Typed b → (op : Op) → described op .BringsBytes → AllPass (tests (described op) b) → Effect (described op .establishes) b (benchOf (described op .directly b))
+effect : (b : Bench) → Lengths b → Typed b → (op : Op) → described op .brings .AreBytes → AllPass (tests (described op) b) → Effect (described op .establishes) b (benchOf (described op .directly b))
 effect b lengths typed op bytes p = lawful op .effect b bytes lengths typed p (all-accepted (tests (described op) b) p)
 
-pub step-keeps : {b : Bench} → Invariant b → (call : Call) → described (call .op) .BringsBytes → Invariant (step b call .bench)
+pub step-keeps : {b : Bench} → Invariant b → (call : Call) → described (call .op) .brings .AreBytes → Invariant (step b call .bench)
 step-keeps {b} inv call bytes = by (step-outcome b (inv .ready .fits) call)
   where
     by : Outcome (described (call .op)) (wronglyLent call) b (step b call) → Invariant (step b call .bench)
@@ -46,7 +45,7 @@ unfolding run
 run-keeps inv [] bytes = inv
 run-keeps inv (call ∷ calls) bytes = run-keeps (step-keeps inv call (bytes .0)) calls (bytes .1)
 
-pub step-establishes : (b : Bench) → Lengths b → Typed b → (call : Call) → described (call .op) .establishes ≡ true → described (call .op) .BringsBytes → step b call .reply .refusal ≡ 0 → Invariant (step b call .bench)
+pub step-establishes : (b : Bench) → Lengths b → Typed b → (call : Call) → described (call .op) .establishes ≡ true → described (call .op) .brings .AreBytes → step b call .reply .refusal ≡ 0 → Invariant (step b call .bench)
 step-establishes b lengths typed call does bytes zero =
     let out = accepted-step b (typed .chip) call refl zero in
     let after = benchOf (described (call .op) .directly b) in
