@@ -36,7 +36,7 @@ enum {
     VDP_ILL_FORMED = 3,      /* the block holds no well-formed state */
     VDP_LINE_NUMBER = 4,     /* line number above 191 */
     VDP_SNAPSHOT_LENGTH = 5, /* snapshot slice not 16,406 bytes */
-    VDP_TRAILER = 6,         /* trailer mark or distance wrong */
+    VDP_TRAILER = 6,         /* trailer's signature or a distance wrong */
     VDP_CHECKSUM = 7         /* snapshot sum wrong */
 };
 
@@ -53,26 +53,35 @@ enum {
 /* The state becomes that of power-up, and VRAM is filled with zeros. The block may hold anything. */
 uint32_t vdp_power_up(uint8_t *block, size_t block_len, uint8_t *vram, size_t vram_len);
 
-/* A byte to the control port: the first of a pair waits, the second completes it. */
+/* The ports. The address is 0 to 16,383 and steps from 16,383 to 0. A first control byte that waits is dropped by a
+ * data write, a data read, a status read and reset; power-up and reading a snapshot replace the whole state. */
+
+/* A byte to the control port. With none waiting it waits, and nothing else changes. With a waiting, byte b
+ * completes the pair: the address becomes (b mod 64) * 256 + a, also where a register is written. From hex 80 on
+ * register b mod 8 takes a, less the bits that it does not keep; if that alters it the redraw mark is set. Below
+ * hex 40 the read buffer takes VRAM at the address, which steps. */
 uint32_t vdp_control_write(uint8_t *block, size_t block_len, const uint8_t *vram, size_t vram_len, uint8_t byte);
 
-/* A byte to the data port: stored at the address and marked in the map of written bytes. */
+/* A byte to the data port: VRAM at the address and the read buffer take it, its bit of the map is set, also where
+ * VRAM held the same byte, and the address steps. */
 uint32_t vdp_data_write(uint8_t *block, size_t block_len, uint8_t *vram, size_t vram_len, uint8_t *map, size_t map_len, uint8_t byte);
 
-/* A byte from the data port. */
+/* A byte from the data port: answers the read buffer, which then takes VRAM at the address; the address steps. */
 uint32_t vdp_data_read(uint8_t *block, size_t block_len, const uint8_t *vram, size_t vram_len);
 
-/* Reads status, and clears its flags. */
+/* Answers status, and then clears its flags: frame (hex 80), fifth sprite (40) and coincidence (20). The low five
+ * bits keep what they held, with the fifth-sprite flag clear too. */
 uint32_t vdp_status_read(uint8_t *block, size_t block_len);
 
-/* The end of active display: sets the frame flag. */
+/* The end of active display: sets the frame flag, which no draw does. */
 uint32_t vdp_end_of_display(uint8_t *block, size_t block_len);
 
-/* Whether the interrupt line is on. */
+/* Whether the interrupt line is on: the frame flag is, and register 1 has hex 20. */
 uint32_t vdp_interrupt_line(const uint8_t *block, size_t block_len);
 
-/* Draws line number 0 to 191 into 256 bytes, one colour (0 to 15) each. The line's note updates status; map,
- * redraw mark and any frame stay as they are. */
+/* Draws line number 0 to 191 into 256 bytes, one colour (0 to 15) each. The line's note (below) updates status: a
+ * fifth sprite sets hex 40 and puts its number into the low five bits, unless hex 40 or 80 is set already;
+ * coincidence sets hex 20. Map, redraw mark and any frame stay as they are. */
 uint32_t vdp_draw_line(uint8_t *block, size_t block_len, const uint8_t *vram, size_t vram_len, uint8_t *line, size_t line_len, uint32_t number);
 
 /* A frame has lines 0 to 191 end to end. Each line has a note: the number of its fifth sprite, or 32 if
@@ -85,16 +94,25 @@ uint32_t vdp_draw_line(uint8_t *block, size_t block_len, const uint8_t *vram, si
 uint32_t vdp_full_draw(uint8_t *block, size_t block_len, const uint8_t *vram, size_t vram_len, uint8_t *map, size_t map_len, uint8_t *frame, size_t frame_len, uint8_t *notes, size_t notes_len);
 
 /* Refresh: redraws the lines that are due and answers how many. With the redraw mark set all are, else those
- * that fetch a byte which the map has. Lent the frame and notes of the last full draw or refresh, it leaves what
- * a full draw would; a line that is not due keeps whatever was lent. All notes update status, in order; map and
- * redraw mark are cleared. */
+ * that fetch a byte whose bit the map has. A line that is not due keeps whatever frame and notes were lent. All
+ * notes update status, in order; map and redraw mark are cleared.
+ *
+ * It leaves what a full draw would, if frame and notes come from an unbroken chain of draws: the chain began with a
+ * full draw, or with a refresh while the redraw mark was set, each refresh since was lent the frame and notes that
+ * the draw before it left, and between them block, VRAM and map were changed by these calls alone. Where a host
+ * changes one of them itself, or draws into another frame with the same map, it begins a new chain. */
 uint32_t vdp_refresh(uint8_t *block, size_t block_len, const uint8_t *vram, size_t vram_len, uint8_t *map, size_t map_len, uint8_t *frame, size_t frame_len, uint8_t *notes, size_t notes_len);
 
 /* Reset: clears registers 0 and 1, status and the waiting byte, and sets the redraw mark. */
 uint32_t vdp_reset(uint8_t *block, size_t block_len);
 
-/* The snapshot: VRAM; the block without its redraw mark; a trailer of eight bytes, which are 56 31 (hex),
- * the distances from the trailer back to the block and to VRAM, and the sum of all bytes before it. */
+/* The snapshot: 16,384 bytes of VRAM; the block without its redraw mark, 14 bytes; and a trailer of eight bytes,
+ * numbers low byte first:
+ *   16398  56 31 (hex), the signature
+ *   16400  0E 00        how far the block stands before the trailer: 14
+ *   16402  0E 40        how far VRAM stands before it: 16,398
+ *   16404  the sum of the 16,404 bytes before it, these six of the trailer among them, modulo 65,536
+ * At power-up the trailer is 56 31 0E 00 0E 40 E3 00. */
 
 /* State and VRAM from a snapshot, with the redraw mark set. The block may hold anything, and
  * VDP_ILL_FORMED speaks of the snapshot. */

@@ -293,7 +293,7 @@ pub struct Difference {
 pub fn run(case: &Case, reached: &mut Reached) -> Result<(), Difference> {
     let (mut library, mut second) = (Side::new(case), Side::new(case));
     // The start's frame is foreign. It follows VRAM from the first full draw on, or the first
-    // refresh with the mark set.
+    // refresh with the redraw mark set.
     let mut follows = false;
     for (at, step) in case.steps.iter().enumerate() {
         let before = library.lent_block(step);

@@ -24,7 +24,7 @@ pub const KINDS: [&str; 8] = [
 
 pub const MASKS: [u8; 8] = [0x03, 0xFB, 0x0F, 0xFF, 0x07, 0x7F, 0x07, 0xFF];
 
-/// A state block and VRAM. The mark is clear, status anything.
+/// A state block and VRAM. The redraw mark is clear, status anything.
 pub fn scene(random: &mut Random, mode: usize, kind: usize) -> (Vec<u8>, Vec<u8>) {
     let block = block(random, mode, kind);
     let mut vram = vec![0; 16384];

@@ -12,8 +12,8 @@ pub const BLOCK_BYTES: usize = STATE_BYTES + 1;
 
 /// The state a block stands for, or none when its contents are wrong.
 pub fn read_block(block: &[u8]) -> Option<State> {
-    let (&mark, bytes) = block.split_last()?;
-    match mark {
+    let (&redraw, bytes) = block.split_last()?;
+    match redraw {
         0 => state_from_bytes(bytes, false),
         1 => state_from_bytes(bytes, true),
         _ => None,
@@ -22,9 +22,9 @@ pub fn read_block(block: &[u8]) -> Option<State> {
 
 /// Puts a state into a block of 15 bytes.
 fn write_block(block: &mut [u8], state: &State) {
-    if let [bytes @ .., mark] = block {
+    if let [bytes @ .., redraw] = block {
         bytes.copy_from_slice(&state_to_bytes(state));
-        *mark = u8::from(state.redraw);
+        *redraw = u8::from(state.redraw);
     }
 }
 

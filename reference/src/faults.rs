@@ -38,7 +38,7 @@ pub const REFRESH_KEEPS_MAP: u32 = 16;
 pub const COUNT_OF_CHANGED: u32 = 17;
 /// Refresh redraws every line and counts the due ones.
 pub const ALL_REDRAWN: u32 = 18;
-/// Refresh redraws only with the mark set; else it only counts.
+/// Refresh redraws only with the redraw mark set; else it only counts.
 pub const REFRESH_ONLY_COUNTS: u32 = 19;
 /// Refresh redraws a line and leaves its note.
 pub const NOTE_NOT_WRITTEN: u32 = 20;
@@ -68,7 +68,7 @@ pub const NAMES: [&str; LAST as usize] = [
     "a refresh leaves the map",
     "a refresh counts the lines that changed",
     "a refresh redraws every line",
-    "a refresh without the mark only counts",
+    "a refresh without the redraw mark only counts",
     "a refresh leaves the notes",
     "a full draw leaves the map",
 ];

@@ -83,7 +83,7 @@ pub fn is_due(state: &State, vram: &[u8], map: &[u8], number: usize) -> bool {
 }
 
 /// Redraws the lines due and no other, then takes status from all the notes,
-/// clears map and mark and answers how many lines were due.
+/// clears map and redraw mark and answers how many lines were due.
 pub fn refresh(
     state: &mut State,
     vram: &[u8],

@@ -10,7 +10,7 @@ pub const STATE: u8 = 3;
 pub const LINE: u8 = 4;
 /// Snapshot slice of wrong length.
 pub const SNAPSHOT: u8 = 5;
-/// Trailer mark or a distance wrong.
+/// Trailer signature or a distance wrong.
 pub const TRAILER: u8 = 6;
 /// Snapshot sum wrong.
 pub const SUM: u8 = 7;

@@ -7,7 +7,7 @@ pub const STATE_BYTES: usize = 14;
 pub const TRAILER_BYTES: usize = 8;
 pub const SNAPSHOT_BYTES: usize = VRAM_BYTES + STATE_BYTES + TRAILER_BYTES;
 
-/// The trailer up to its sum: mark, 14 back to the state, 16,398 back to VRAM.
+/// The trailer up to its sum: signature, 14 back to the state, 16,398 back to VRAM.
 const TRAILER_START: [u8; 6] = [0x56, 0x31, 0x0E, 0x00, 0x0E, 0x40];
 /// Where the trailer begins.
 const TRAILER_AT: usize = VRAM_BYTES + STATE_BYTES;

@@ -112,7 +112,7 @@ static int refreshed(const char *what, int want)
     return (int)got;
 }
 
-/* With map and mark clear a refresh leaves the frame and the notes as lent, whatever they hold. */
+/* With map and redraw mark clear a refresh leaves the frame and the notes as lent, whatever they hold. */
 static void left_alone(const char *what, int l)
 {
     other = now;
@@ -153,7 +153,7 @@ static void edge_cases(void)
     before = now;
     fully_drawn("the set-up");
     now = full;
-    check(now.lent.block[14] == 0 && map_clear(&now), "the set-up: mark and map clear");
+    check(now.lent.block[14] == 0 && map_clear(&now), "the set-up: redraw mark and map clear");
     start = now;
     refreshed("no write", 0);
     for (size_t i = 0; i < sizeof cases / sizeof cases[0]; i++)
@@ -222,7 +222,7 @@ static uint32_t step(void)
     }
 }
 
-/* Rounds of calls and a refresh, from a full draw on. A count is known where the mark is set, and where nothing was
+/* Rounds of calls and a refresh, from a full draw on. A count is known where the redraw mark is set, and where nothing was
  * written. */
 static void rounds(void)
 {

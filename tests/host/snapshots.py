@@ -32,7 +32,7 @@ def main(folder):
     refused("long", 5, whole + b"\0")
     refused("twice", 5, whole + whole)
     for k in (0, 1):
-        refused("mark_%d" % k, 6, snapshot([(TRAILER + k, 0x55)]))
+        refused("signature_%d" % k, 6, snapshot([(TRAILER + k, 0x55)]))
     for k, byte in ((2, 0x0F), (3, 0x01), (4, 0x0F), (5, 0x41)):
         refused("distance_%d" % k, 6, snapshot([(TRAILER + k, byte)]))
     refused("distance_swapped", 6, snapshot([(TRAILER + 4, 0x40), (TRAILER + 5, 0x0E)]))
@@ -49,9 +49,9 @@ def main(folder):
     refused("flag_255", 3, snapshot([(BLOCK + 11, 255), (BLOCK + 12, 7)]))
     refused("first_byte", 3, snapshot([(BLOCK + 12, 1)]))
     # two at once: the earlier of 5, 6, 7, 3 is told
-    refused("short_and_mark", 5, snapshot([(TRAILER, 0)])[:-1])
-    refused("mark_and_sum", 6, snapshot([(TRAILER, 0)], summed=False))
-    refused("mark_and_register", 6, snapshot([(TRAILER + 1, 0), (BLOCK, 0xFF)]))
+    refused("short_and_signature", 5, snapshot([(TRAILER, 0)])[:-1])
+    refused("signature_and_sum", 6, snapshot([(TRAILER, 0)], summed=False))
+    refused("signature_and_register", 6, snapshot([(TRAILER + 1, 0), (BLOCK, 0xFF)]))
     refused("sum_and_register", 7, snapshot([(BLOCK, 0xFF)], summed=False))
     refused("sum_and_flag", 7, snapshot([(BLOCK + 11, 2)], summed=False))
     refused("distance_and_first_byte", 6, snapshot([(TRAILER + 2, 0), (BLOCK + 12, 1)]))

@@ -1,5 +1,4 @@
 -- Laws about the definitions of specs/.
-pub mod Status
 pub mod Lines
 pub mod Redraw
 pub mod Due

@@ -1,14 +1,14 @@
 -- What a full draw leaves: functions of registers, status and VRAM alone.
 use Prim.Native.Nat.{ℕ}
 use mathlib.Core.Bool.{false}
-use mathlib.Core.List.{List, [], _∷_}
+use mathlib.Core.List.{List}
 use lib.ListN.{replicate}
 use Rattle.chip.specs.Lists.{tabulate}
 use Rattle.chip.specs.Map.{mapSize}
 use Rattle.chip.specs.State.{withStatus, withRedraw}
 use Rattle.chip.specs.declared.state.Chip.{Chip}
 use Rattle.scanline.specs.Calls.{noteAt, colours}
-use Rattle.scanline.specs.Notes.{statusAfter}
+use Rattle.scanline.specs.Notes.{statusThrough}
 use Rattle.frame.specs.Lines.{lineCount, endToEnd}
 
 -- Lines 0 to 191 in order.
@@ -18,11 +18,6 @@ frameOf r vram = endToEnd lineCount (colours r vram)
 -- The note of each line.
 abbrev pub notesOf : List ℕ → List ℕ → List ℕ
 notesOf r vram = tabulate lineCount (noteAt r vram)
-
--- Status updated by each note, in order.
-unfoldable pub statusThrough : ℕ → List ℕ → ℕ
-statusThrough s [] = s
-statusThrough s (n ∷ l) = statusThrough (statusAfter s n) l
 
 -- The map is cleared.
 abbrev pub clearMap : List ℕ

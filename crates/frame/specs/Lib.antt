@@ -3,4 +3,3 @@ pub mod Lines
 pub mod Draw
 pub mod Due
 pub mod Calls
-pub mod LineDraws

@@ -1,6 +1,6 @@
 // Status updated by the notes of all lines, in order.
 ghost use mathlib.Core.Path.{_≡_};
-ghost use Rattle.frame.specs.Draw.{statusThrough};
+ghost use Rattle.scanline.specs.Notes.{statusThrough};
 use scanline::status_after;
 
 pub fn status_through(status: u8, notes: &[u8]) -> u8

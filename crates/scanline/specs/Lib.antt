@@ -2,3 +2,4 @@
 pub mod Line
 pub mod Notes
 pub mod Calls
+pub mod LineDraws

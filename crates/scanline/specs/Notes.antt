@@ -1,7 +1,7 @@
--- A line's note, and status after it.
+-- A line's note, and status after it and after several.
 use Prim.Native.Nat.{ℕ, _+_, _*_, _/_, _%_}
 use mathlib.Core.Bool.{Bool, cond, not, _&&_}
-use mathlib.Core.List.{List}
+use mathlib.Core.List.{List, [], _∷_}
 use lib.Dec.{ltb}
 use Rattle.chip.specs.Bits.{bit, setBit}
 use Rattle.sprites.specs.Scan.{fifthOf}
@@ -30,3 +30,8 @@ withCoincidence s note = cond (bit 6 note) (setBit 5 s) s
 -- Status after a line with this note.
 unfoldable pub statusAfter : ℕ → ℕ → ℕ
 statusAfter s note = withCoincidence (withFifth s note) note
+
+-- Status updated by each note, in order.
+unfoldable pub statusThrough : ℕ → List ℕ → ℕ
+statusThrough s [] = s
+statusThrough s (n ∷ l) = statusThrough (statusAfter s n) l

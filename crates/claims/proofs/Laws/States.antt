@@ -19,8 +19,8 @@ use Rattle.chip.specs.declared.state.Waiting.the-variants.{Nothing, First}
 use Rattle.chip.proofs.Laws.Lists.{bytes-zeros}
 use Rattle.chip.proofs.Laws.Ranges.{and-both, and-right}
 use Rattle.chip.proofs.Laws.State.{masked-in, FitsType, fits-changed}
-use Rattle.scanline.specs.Notes.{withFifth, statusAfter}
-use Rattle.frame.specs.Draw.{statusThrough, drawnState}
+use Rattle.scanline.specs.Notes.{withFifth, statusAfter, statusThrough}
+use Rattle.frame.specs.Draw.{drawnState}
 use Rattle.claims.proofs.Laws.Registers.{kept-byte, bytes-set, masked-set}
 
 pub record Ready (c : Chip) : Type 0 where

@@ -8,7 +8,7 @@ use denote.Ref.{now}
 use borrow.Author.Needs.{needs}
 use Rattle.chip.specs.State.{withStatus, withRedraw}
 use Rattle.chip.specs.declared.refusal.Refusal.{Refusal}
-use Rattle.frame.specs.Draw.{statusThrough}
+use Rattle.scanline.specs.Notes.{statusThrough}
 use Rattle.frame.proofs.calls.draw_due.Statement.{statement}
 use Rattle.frame.proofs.calls.draw_due.Tie as tie
 

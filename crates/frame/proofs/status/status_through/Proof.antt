@@ -6,8 +6,8 @@ use mathlib.Core.Path.{_≡_, refl, ap, _∙_}
 use borrow.Author.Needs.{needs}
 use lib.ListN.{length, take}
 use lib.Seq.{take-suc, take-length}
-use Rattle.frame.specs.Draw.{statusThrough}
-use Rattle.frame.proofs.Laws.Status.{one-note-more}
+use Rattle.scanline.specs.Notes.{statusThrough}
+use Rattle.scanline.proofs.Laws.LineDraws.{one-note-more}
 use Rattle.frame.proofs.status.status_through.Statement.{statement}
 use Rattle.frame.proofs.status.status_through.Tie as tie
 

@@ -1,8 +1,8 @@
--- A full draw as calls that draw a line, in order from line 0.
+-- Calls that draw a line, in order from line 0.
 use Prim.Native.Nat.{ℕ, zero, suc}
 use mathlib.Core.List.{List}
 use Rattle.chip.specs.declared.state.Chip.{Chip}
 use Rattle.scanline.specs.Calls.{drawLine, drawLineLine}
 
 -- The state after the draws of lines 0 to n - 1, each from the state that the one before handed back.
 -- For line l the slice `slices l` is lent.

@@ -1,0 +1,73 @@
+-- What the draw of a line leaves, and what the draws of lines 0 to n - 1 leave: from any well-formed state and full VRAM,
+-- into any slices of 256 bytes, the draws change status alone, by the notes of the lines.
+use Prim.Native.Nat.{ℕ, zero, suc, _≤_, _<_}
+use native.Mathlib.Omega.{arith}
+use mathlib.Core.Path.{_≡_, refl, sym, ap, _∙_}
+use mathlib.Core.Bool.{true}
+use mathlib.Core.List.{List, [], _∷_, _++_}
+use lib.ListN.{length}
+use borrow.Author.Tests.{eq-eqb, le-leb}
+use Rattle.chip.specs.Lists.{tabulate}
+use Rattle.chip.specs.State.{wellFormed, withStatus}
+use Rattle.chip.specs.Refusals.{vramTest, sliceTest, stateTest, lineTest}
+use Rattle.chip.specs.declared.state.Chip.{Chip}
+use Rattle.chip.specs.declared.refusal.Refusal.the-variants.{Accepted}
+use Rattle.chip.proofs.Laws.Refusals.{the-new, all-accepted}
+use Rattle.scanline.specs.Notes.{statusAfter, statusThrough}
+use Rattle.scanline.specs.Calls.{noteAt, colours, drawLine, drawLineLine, drawLineRefusal}
+use Rattle.scanline.specs.LineDraws.{stateAfter, drawnLine}
+
+pub one-note-more : (s : ℕ) (l : List ℕ) (n : ℕ) → statusThrough s (l ++ (n ∷ [])) ≡ statusAfter (statusThrough s l) n
+unfolding statusThrough
+one-note-more s [] n = refl
+one-note-more s (m ∷ l) n = one-note-more (statusAfter s m) l n
+
+-- a table of one entry more
+one-more : (n : ℕ) (f : ℕ → ℕ) → tabulate (suc n) f ≡ tabulate n f ++ (f n ∷ [])
+unfolding tabulate
+one-more zero f = refl
+one-more (suc n) f = ap (λ (l : List ℕ). f 0 ∷ l) (one-more n (λ i. f (suc i)))
+
+-- status through the notes f 0 to f n
+pub one-line-more : (s : ℕ) (f : ℕ → ℕ) (n : ℕ) → statusThrough s (tabulate (suc n) f) ≡ statusAfter (statusThrough s (tabulate n f)) (f n)
+one-line-more s f n = ap (statusThrough s) (one-more n f) ∙ one-note-more s (tabulate n f) (f n)
+
+-- the state with its status updated by the notes of lines 0 to n - 1
+abbrev pub noted : ℕ → Chip → List ℕ → Chip
+noted n c vram = withStatus (statusThrough (c .status) (tabulate n (noteAt (c .registers) vram))) c
+
+-- well-formedness asks nothing of status
+still-formed : (s : ℕ) (c : Chip) → wellFormed c ≡ true → wellFormed (withStatus s c) ≡ true
+unfolding wellFormed
+still-formed s c ok = ok
+
+module _ (vram : List ℕ) (full : length vram ≡ 16384) where
+  -- The draw of one line.
+  module _ (c : Chip) (ok : wellFormed c ≡ true) (slice : List ℕ) (wide : length slice ≡ 256) (l : ℕ) (h : l < 192) where
+    pub line-accepted : drawLineRefusal c vram slice l ≡ Accepted
+    line-accepted =
+        all-accepted (vramTest vram ∷ sliceTest 256 slice ∷ stateTest c ∷ lineTest l ∷ []) (eq-eqb _ _ full, (eq-eqb _ _ wide, (ok, (le-leb l 191 (omega arith), tt))))
+
+    pub line-drawn : drawLineLine c vram slice l ≡ colours (c .registers) vram l
+    line-drawn = the-new line-accepted (colours (c .registers) vram l) slice
+
+    pub state-drawn : drawLine c vram slice l .chip ≡ withStatus (statusAfter (c .status) (noteAt (c .registers) vram l)) c
+    state-drawn = the-new line-accepted (withStatus (statusAfter (c .status) (noteAt (c .registers) vram l)) c) c
+
+  -- The draws of lines 0 to n - 1.
+  module _ (slices : ℕ → List ℕ) (wide : (l : ℕ) → length (slices l) ≡ 256) (c : Chip) (ok : wellFormed c ≡ true) where
+    pub state-after : (n : ℕ) → n ≤ 192 → stateAfter n c vram slices ≡ noted n c vram
+    unfolding stateAfter statusThrough tabulate
+    state-after zero h = refl
+    state-after (suc n) h =
+        ap (λ (d : Chip). drawLine d vram (slices n) n .chip) (state-after n (omega arith))
+        ∙ state-drawn (noted n c vram) (still-formed _ c ok) (slices n) (wide n) n (omega arith)
+        ∙ ap (λ (s : ℕ). withStatus s c) (sym (one-line-more (c .status) (noteAt (c .registers) vram) n))
+
+    pub each-accepted : (l : ℕ) → l < 192 → drawLineRefusal (stateAfter l c vram slices) vram (slices l) l ≡ Accepted
+    each-accepted l h =
+        ap (λ (d : Chip). drawLineRefusal d vram (slices l) l) (state-after l (omega arith)) ∙ line-accepted (noted l c vram) (still-formed _ c ok) (slices l) (wide l) l h
+
+    pub each-drawn : (l : ℕ) → l < 192 → drawnLine c vram slices l ≡ colours (c .registers) vram l
+    each-drawn l h =
+        ap (λ (d : Chip). drawLineLine d vram (slices l) l) (state-after l (omega arith)) ∙ line-drawn (noted l c vram) (still-formed _ c ok) (slices l) (wide l) l h
