@@ -45,7 +45,7 @@ abbrev pub wronglyLent : Call → Bool
 wronglyLent call = otherBlock (call .caller) || otherList (described (call .op) .takes) (call .lists)
 
 -- A bench in order: its state is well-formed, all values fit their types and all lists have their lengths. So a call that
--- is lent the bench's lists, directly or from C, is refused only by the tests of what is its own.
+-- is lent the bench's lists, directly or from C, is refused only by the tests of what it brings.
 abbrev pub InOrder : Bench → Type 0
 InOrder b =
     (wellFormed (b .chip) ≡ true)

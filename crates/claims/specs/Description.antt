@@ -34,13 +34,15 @@ pub record Takes : Type 0 where
 
 -- What a call brings that is its own: bytes to write, slices to fill, a line's number, a snapshot.
 pub record Brings : Type 1 where
-  -- The tests of it. Some calls look at the state, too, to judge it.
+  -- The tests of it, which may look at the state too.
   pub tests : Chip → List Test
-  -- The slices that are to be filled. They may hold anything.
+  -- The slices that the call is to fill. They may hold anything.
   pub slices : List (List ℕ)
-  -- That the bytes that are read are bytes.
+  -- That the bytes which the call is to read are bytes.
   pub AreBytes : Type 0
 
+-- A law of each call (`Lawful`, in proofs/) is that the tests which `takes`, `testsState` and `brings` give are those of its
+-- definition.
 pub record Description : Type 1 where
   pub takes : Takes
   -- Whether it tests that the state is well-formed.

@@ -10,7 +10,7 @@ use Rattle.claims.specs.Description.{Reply, Left, Takes, Description}
 use Rattle.claims.specs.Descriptions.{described}
 
 module _ {n : ℕ} where
-  -- What a call finds in place of one of the bench's lists, l: if it takes that list, what was lent for it.
+  -- What a call finds in place of one of the bench's lists, l: what was lent for it. (A list that it does not take is not lent.)
   abbrev pub lent : Bool → Lent n → List ℕ → List ℕ
   lent takes own l = l
   lent true (other k wrong) l = k

@@ -35,7 +35,7 @@ abbrev pub entryTests : Description → List ℕ → Bench → List Test
 entryTests d block b = testIf (d .takes .vram) (vramTest (b .vram)) (sliceTest blockSize block ∷ [])
 
 pub record Lawful (d : Description) : Type 0 where
-  -- Its tests are those by what it takes, then its own; each can refuse it.
+  -- Its tests are those that its description gives, and each of its own can refuse it.
   pub refusal : (b : Bench) → d .directly b .reply .refusal ≡ numberOf (refusalOf (tests d b))
   pub can-refuse : (c : Chip) → AllRefuse (d .brings .tests c)
   -- Refused, it leaves everything.

@@ -1,6 +1,6 @@
 -- What was lent, and what comes back.
 use Prim.Native.Nat.{ℕ}
-use mathlib.Core.Path.{_≡_, refl, sym, _∙_}
+use mathlib.Core.Path.{_≡_, refl, sym}
 use mathlib.Core.Bool.{Bool, true, false, _&&_, _||_}
 use mathlib.Core.List.{List}
 use lib.Dec.{eqb}
@@ -16,7 +16,7 @@ use Rattle.claims.specs.Description.{Description, testIf, tests, Left}
 use Rattle.claims.specs.Step.{lent, back, lentBench, benchBack}
 use Rattle.claims.specs.After.{isOther, otherList}
 use Rattle.claims.proofs.Laws.Invariant.{bench}
-use Rattle.claims.proofs.Laws.Lawful.{benchOf}
+use Rattle.claims.proofs.Laws.Lawful.{asLent, benchOf}
 
 -- A test that may be made.
 pub passed-if : (f : Bool) (t : Test) (ts : List Test) → AllPass (testIf f t ts) → (f ≡ true → t .passes ≡ true) × AllPass ts
@@ -79,9 +79,12 @@ module _ (d : Description) (lists : LentLists) (b : Bench) where
     pub back-own : (l : Left Chip) → benchBack (d .takes) lists b (l .state) l ≡ benchOf l
     back-own l = let o = own-lists p in λ i. bench (l .state) (o .vram .stays (l .vram) i) (o .map .stays (l .map) i) (o .frame .stays (l .frame) i) (o .notes .stays (l .notes) i)
 
-  -- Where the call left all as lent, the bench is as it was.
+  -- Where the call was refused, the bench is as it was.
   module _ {S : Type 0} where
-    pub back-lent : (l : Left S) → l .vram ≡ lends .vram → l .map ≡ lends .map → l .frame ≡ lends .frame → l .notes ≡ lends .notes → benchBack (d .takes) lists b (b .chip) l ≡ b
-    back-lent l ev em ef en =
-        (λ i. bench (b .chip) (back (d .takes .vram) (lists .vram) (ev i) (b .vram)) (back (d .takes .map) (lists .map) (em i) (b .map)) (back (d .takes .frame) (lists .frame) (ef i) (b .frame)) (back (d .takes .notes) (lists .notes) (en i) (b .notes)))
-        ∙ (λ i. bench (b .chip) (back-same (d .takes .vram) (lists .vram) (b .vram) i) (back-same (d .takes .map) (lists .map) (b .map) i) (back-same (d .takes .frame) (lists .frame) (b .frame) i) (back-same (d .takes .notes) (lists .notes) (b .notes) i))
+    pub back-lent : (n : ℕ) (s : S) → benchBack (d .takes) lists b (b .chip) (asLent d n s lends) ≡ b
+    back-lent n s = λ i.
+        bench (b .chip)
+        (back-same (d .takes .vram) (lists .vram) (b .vram) i)
+        (back-same (d .takes .map) (lists .map) (b .map) i)
+        (back-same (d .takes .frame) (lists .frame) (b .frame) i)
+        (back-same (d .takes .notes) (lists .notes) (b .notes) i)

@@ -63,7 +63,7 @@ module _ {d : Description} (law : Lawful d) (lists : LentLists) (b : Bench) wher
 
   -- refused, by whichever tests
   left-all : (n : ℕ) → back (asLent d n (b .chip) lends) ≡ refusedStep d n b
-  left-all n = λ i. record { bench = back-lent d lists b (asLent d n (b .chip) lends) refl refl refl refl i; reply = asLent d n (b .chip) lends .reply }
+  left-all n = λ i. record { bench = back-lent d lists b n (b .chip) i; reply = asLent d n (b .chip) lends .reply }
 
   directly-out : Outcome d (otherList (d .takes) lists) b (stepOf d direct lists b)
   directly-out = by (isAccepted (refusalOf (tests d lends))) refl
