@@ -34,8 +34,8 @@ unfolding vramEntry
 vram-fifteen block vram number z =
     eqb-true _ _ (all-pass (vramTest vram ∷ sliceTest blockSize block ∷ []) (refl, (refl, tt)) (passes (vramEntry block vram) number z) .1 .0)
 
--- A call that is refused at entry answers x, and leaves the block and every other list as lent. Past the entry the direct call, on the
--- state s that was loaded, decides.
+-- A call that is refused at entry answers x, and leaves the block and every other list as lent. Past the entry the direct call
+-- on the state s that was loaded decides.
 module _ (entry : Refusal) (block : List ℕ) (call : Chip → Answer) {x : ℕ} (number : x ≡ numberOf entry * 256) where
   pub refused-result : (x ≡ 0 → ⊥) → x ≡ resultThrough entry block call
   unfolding resultThrough
@@ -65,5 +65,5 @@ module _ (entry : Refusal) (block : List ℕ) (leaves : Chip → List ℕ) (lent
   unfolding listThrough
   direct-list passed loaded left = rw (passes entry number passed) (left ∙ ap leaves loaded)
 
--- What every need of a call from C follows by.
+-- What the needs of a call from C follow by: `search` finds which law, and its premises, at each.
 pub ruleset from-c = (block-fifteen, vram-fifteen, refused-result, refused-block, refused-list, direct-result, direct-block, direct-list, needs)

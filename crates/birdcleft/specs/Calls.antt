@@ -13,9 +13,9 @@ pub record FromC : Type 0 where
   pub result : ℕ
   pub block : List ℕ
 
--- The tests at entry, past which the block can be decoded: VRAM's length, where VRAM is lent, and the block's. All others are the direct
--- call's. So the one order of tests is kept: VRAM's length comes first in it, then the lengths with number 2, of which the block's is one,
--- and everything else later.
+-- The tests at entry, past which the block can be decoded: VRAM's length, where VRAM is lent, and the block's. All others are
+-- the direct call's. This keeps the one order of tests: VRAM's length comes first in it, then the lengths with number 2, of
+-- which the block's is one, and everything else later (proofs/Order.antt).
 unfoldable pub blockEntry : List ℕ → Refusal
 blockEntry block = refusalOf (sliceTest blockSize block ∷ [])
 

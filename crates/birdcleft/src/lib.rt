@@ -1,5 +1,5 @@
-// The calls from C. Each tests what has to fit before the block can be decoded, loads the state from it, makes the direct call, and stores
-// the next state if the call was accepted.
+// The calls from C. Each makes the tests that must pass before the block can be decoded, loads the state, makes the direct
+// call, and stores the next state if the call was accepted.
 ghost use mathlib.Core.Path.{_≡_};
 ghost use Prim.Native.Nat.{_*_};
 ghost use lib.ListN.{length};

@@ -34,8 +34,8 @@ stateIn b redraw =
       redraw = redraw;
     }
 
--- The state that 14 bytes hold. Registers outside their masks and too large an address decode as they stand: the test of the state is for
--- the calls.
+-- The state that 14 bytes hold. Registers outside their masks and too large an address decode as they stand: the calls test
+-- the state.
 unfoldable pub decoded : List ℕ → Bool → Chip
 decoded b redraw = cond (waitingValid (getD b 11 0) (getD b 12 0)) (stateIn b redraw) illFormedState
 

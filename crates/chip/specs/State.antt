@@ -79,7 +79,7 @@ module _ {A B C : Type 0} where
   abbrev pub inTail : (B → C) → A × B → A × C
   inTail f p = (p .0, f (p .1))
 
--- One field changed.
+-- One field changed. (A further field is an entry in `Fields` and in `rebuilt`, and a line here and in `changed`.)
 pub data Change : Type 0 where
   registersTo : List ℕ → Change
   addressTo : ℕ → Change

@@ -1,5 +1,5 @@
 -- `finish`: the answer's refusal decides whether the next state is stored.
-use mathlib.Core.Path.{_≡_, refl, sym, _∙_}
+use mathlib.Core.Path.{sym, _∙_}
 use borrow.Author.Tests.{eq-eqb, ne-eqb}
 use borrow.Author.Needs.{needs}
 use Rattle.birdcleft.proofs.finish.Statement.{statement}

@@ -1,4 +1,4 @@
--- `vdp_end_of_display` meets its contract.
+-- `vdp_end_of_display` meets its contract: each need follows by the laws of a call from C.
 use Rattle.birdcleft.proofs.Laws.{from-c}
 use Rattle.birdcleft.proofs.vdp_end_of_display.Statement.{statement}
 use Rattle.birdcleft.proofs.vdp_end_of_display.Tie as tie

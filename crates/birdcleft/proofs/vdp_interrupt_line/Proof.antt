@@ -1,4 +1,4 @@
--- `vdp_interrupt_line` meets its contract.
+-- `vdp_interrupt_line` meets its contract: each need follows by the laws of a call from C.
 use Rattle.birdcleft.proofs.Laws.{from-c}
 use Rattle.birdcleft.proofs.vdp_interrupt_line.Statement.{statement}
 use Rattle.birdcleft.proofs.vdp_interrupt_line.Tie as tie

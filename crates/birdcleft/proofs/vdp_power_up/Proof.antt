@@ -1,4 +1,4 @@
--- `vdp_power_up` meets its contract.
+-- `vdp_power_up` meets its contract: each need follows by the laws of a call from C.
 use Rattle.birdcleft.proofs.Laws.{from-c}
 use Rattle.birdcleft.proofs.vdp_power_up.Statement.{statement}
 use Rattle.birdcleft.proofs.vdp_power_up.Tie as tie

@@ -1,4 +1,4 @@
--- `vdp_reset` meets its contract.
+-- `vdp_reset` meets its contract: each need follows by the laws of a call from C.
 use Rattle.birdcleft.proofs.Laws.{from-c}
 use Rattle.birdcleft.proofs.vdp_reset.Statement.{statement}
 use Rattle.birdcleft.proofs.vdp_reset.Tie as tie

@@ -1,4 +1,4 @@
--- `vdp_full_draw` meets its contract.
+-- `vdp_full_draw` meets its contract: each need follows by the laws of a call from C.
 use Rattle.birdcleft.proofs.Laws.{from-c}
 use Rattle.birdcleft.proofs.frames.vdp_full_draw.Statement.{statement}
 use Rattle.birdcleft.proofs.frames.vdp_full_draw.Tie as tie

@@ -1,4 +1,4 @@
--- `vdp_refresh` meets its contract.
+-- `vdp_refresh` meets its contract: each need follows by the laws of a call from C.
 use Rattle.birdcleft.proofs.Laws.{from-c}
 use Rattle.birdcleft.proofs.frames.vdp_refresh.Statement.{statement}
 use Rattle.birdcleft.proofs.frames.vdp_refresh.Tie as tie

@@ -1,4 +1,4 @@
--- `vdp_draw_line` meets its contract.
+-- `vdp_draw_line` meets its contract: each need follows by the laws of a call from C.
 use Rattle.birdcleft.proofs.Laws.{from-c}
 use Rattle.birdcleft.proofs.lines.vdp_draw_line.Statement.{statement}
 use Rattle.birdcleft.proofs.lines.vdp_draw_line.Tie as tie

@@ -1,4 +1,4 @@
--- `vdp_read_snapshot` meets its contract.
+-- `vdp_read_snapshot` meets its contract: each need follows by the laws of a call from C.
 use Rattle.birdcleft.proofs.Laws.{from-c}
 use Rattle.birdcleft.proofs.snapshots.vdp_read_snapshot.Statement.{statement}
 use Rattle.birdcleft.proofs.snapshots.vdp_read_snapshot.Tie as tie

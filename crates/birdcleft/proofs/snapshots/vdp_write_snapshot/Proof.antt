@@ -1,4 +1,4 @@
--- `vdp_write_snapshot` meets its contract.
+-- `vdp_write_snapshot` meets its contract: each need follows by the laws of a call from C.
 use Rattle.birdcleft.proofs.Laws.{from-c}
 use Rattle.birdcleft.proofs.snapshots.vdp_write_snapshot.Statement.{statement}
 use Rattle.birdcleft.proofs.snapshots.vdp_write_snapshot.Tie as tie
