@@ -37,14 +37,8 @@ refresh-is-full-draw b inv last is-refresh accepted map frame notes hm hf hn =
     let full = full-draw elsewhere (inv .ready) (record { vram = inv .lengths .vram; map = hm; frame = hf; notes = hn }) in
     (full .0, refresh-drawn b inv last is-refresh accepted ∙ sym (full .1))
 
--- Take a bench whose four lists have their lengths, whose state fits its types and whose VRAM holds bytes, and a call of it that
--- is accepted and establishes the invariant: a full draw, power-up, reset, or reading a snapshot of bytes, called directly or
--- from C. Take then any list of calls, of which nothing is asked but that the bytes they bring are bytes: each may be lent the
--- bench's lists or others of the wrong length, and be accepted or refused. Take last a refresh, called directly or from C, that
--- is accepted. It leaves what a full draw from the same state and VRAM would.
---
--- It rests on `step` (specs/Step.antt), which applies to what was lent the definitions that the contracts of the calls
--- cite: so what it says of the definitions, the contracts say of the code.
+-- What demand 3 says below, after any first call that establishes the invariant: a full draw, power-up, reset, or reading a
+-- snapshot of bytes.
 pub refresh-after-any-calls :
     (start : Bench) → Lengths start → Typed start
     → (first : Call) → described (first .op) .establishes ≡ true → described (first .op) .brings .AreBytes → step start first .reply .refusal ≡ 0
@@ -53,9 +47,16 @@ pub refresh-after-any-calls :
 refresh-after-any-calls start lengths typed first does brings accepted calls bytes =
     refresh-is-full-draw (run (step start first .bench) calls) (run-keeps (step-establishes start lengths typed first does brings accepted) calls bytes)
 
--- Demand 3 names a full draw as the first call: so it is this of the above. With the bench's own map, frame and notes, the full
--- draw that RefreshIsFullDraw (specs/After.antt) speaks of is the one in place of the refresh; from C a full draw is the same
--- (from-c, RefusedCalls.antt).
+-- Demand 3. Take a bench whose four lists have their lengths, whose state fits its types and whose VRAM holds bytes, and a full
+-- draw of it that is accepted, called directly or from C. Take then any list of calls, of which nothing is asked but that the
+-- bytes they bring are bytes: each may be lent the bench's lists or others of the wrong length, and be accepted or refused.
+-- Take last a refresh, called directly or from C, that is accepted. It leaves the same bench (state, VRAM, map, frame and
+-- notes) as a full draw from the same state and VRAM into any map, frame and notes of the right lengths, and that full draw is
+-- accepted (RefreshIsFullDraw, specs/After.antt). With the bench's own map, frame and notes that is the full draw in place of
+-- the refresh; from C a full draw is the same (from-c, RefusedCalls.antt).
+--
+-- It rests on `step` (specs/Step.antt), which applies to what was lent the definitions that the contracts of the calls
+-- cite: so what it says of the definitions, the contracts say of the code.
 pub demand-3 :
     (start : Bench) → Lengths start → Typed start
     → (first : Call) → first .op ≡ fullDraw → step start first .reply .refusal ≡ 0

@@ -25,20 +25,33 @@ use Rattle.claims.proofs.Laws.Invariant.{refreshed}
 use Rattle.claims.proofs.Laws.Draws.{due-drawn, due-counted}
 use Rattle.claims.proofs.Laws.Steps.{accepted-step}
 
--- line l of the frame and of the notes after a refresh
-module _ (redraw : Bool) (r vram map : List ℕ) (l : ℕ) (below : l < 192) where
-  either-long : (b : Bool) (x y : List ℕ) → length x ≡ 256 → length y ≡ 256 → length (cond b x y) ≡ 256
-  either-long true x y p q = p
-  either-long false x y p q = q
+-- Line l of the frame and of the notes after a refresh, by whether it is due.
+module _ (b : Bench) (long : length (b .frame) ≡ 49152) (l : ℕ) (below : l < 192) where
+  abbrev m : Bool
+  m = b .chip .redraw
 
-  new-line : (frame : List ℕ) → length frame ≡ 49152 → lineAt (newFrame redraw r vram map frame) l ≡ newLine redraw r vram map frame l
-  new-line frame long =
-      line-of-end (newLine redraw r vram map frame) 192
-      (λ k under. either-long (due redraw r vram map k) _ _ (length-tabulate 256 (colourAt r (value (lineOf r k) vram))) (length-line frame k (omega arith)))
+  abbrev r : List ℕ
+  r = b .chip .registers
+
+  either-long : (x : Bool) (p q : List ℕ) → length p ≡ 256 → length q ≡ 256 → length (cond x p q) ≡ 256
+  either-long true p q h k = h
+  either-long false p q h k = k
+
+  new-line : lineAt (newFrame m r (b .vram) (b .map) (b .frame)) l ≡ newLine m r (b .vram) (b .map) (b .frame) l
+  new-line =
+      line-of-end (newLine m r (b .vram) (b .map) (b .frame)) 192
+      (λ k under. either-long (due m r (b .vram) (b .map) k) _ _ (length-tabulate 256 (colourAt r (value (lineOf r k) (b .vram)))) (length-line (b .frame) k (omega arith)))
       l below
 
-  new-note : (notes : List ℕ) → getD (newNotes redraw r vram map notes) l 0 ≡ newNote redraw r vram map notes l
-  new-note notes = getD-tabulate 192 (newNote redraw r vram map notes) l below
+  new-note : getD (newNotes m r (b .vram) (b .map) (b .notes)) l 0 ≡ newNote m r (b .vram) (b .map) (b .notes) l
+  new-note = getD-tabulate 192 (newNote m r (b .vram) (b .map) (b .notes)) l below
+
+  by-due : {after : Bench} → after ≡ refreshed b → (x : Bool) → due m r (b .vram) (b .map) l ≡ x
+      → (lineAt (after .frame) l ≡ cond x (colours r (b .vram) l) (lineAt (b .frame) l)) × (getD (after .notes) l 0 ≡ cond x (noteAt r (b .vram) l) (getD (b .notes) l 0))
+  by-due same x e = (
+    ap (λ (k : Bench). lineAt (k .frame) l) same ∙ new-line ∙ (λ i. cond (e i) (colours r (b .vram) l) (lineAt (b .frame) l)),
+    ap (λ (k : Bench). getD (k .notes) l 0) same ∙ new-note ∙ (λ i. cond (e i) (noteAt r (b .vram) l) (getD (b .notes) l 0)),
+  )
 
 -- Take any bench whose state fits its types, and a refresh of it that is accepted, called directly or from C. It answers the
 -- number of due lines. Each line that is not due keeps its 256 bytes and its note, whatever they were; each due line gets those
@@ -48,22 +61,9 @@ refresh-due-lines b fits call is accepted =
     let out = accepted-step b fits call is accepted in
     let ok = all-accepted (tests (described refresh) b) (out .0) in
     let same : step b call .bench ≡ refreshed b = ap (λ (s : Step). s .bench) (out .1) ∙ due-drawn b ok in
-    let frame : step b call .bench .frame ≡ refreshed b .frame = ap (λ (k : Bench). k .frame) same in
-    let notes : step b call .bench .notes ≡ refreshed b .notes = ap (λ (k : Bench). k .notes) same in
-    let m = b .chip .redraw in
-    let r = b .chip .registers in
-    let line : (l : ℕ) → l < 192 → lineAt (step b call .bench .frame) l ≡ newLine m r (b .vram) (b .map) (b .frame) l =
-    λ l below. ap (λ (f : List ℕ). lineAt f l) frame ∙ new-line m r (b .vram) (b .map) l below (b .frame) (eqb-true _ _ (out .0 .1 .1 .0)) in
-    let note : (l : ℕ) → l < 192 → getD (step b call .bench .notes) l 0 ≡ newNote m r (b .vram) (b .map) (b .notes) l =
-    λ l below. ap (λ (n : List ℕ). getD n l 0) notes ∙ new-note m r (b .vram) (b .map) l below (b .notes) in
+    let long : length (b .frame) ≡ 49152 = eqb-true _ _ (out .0 .1 .1 .0) in
     record {
       count = ap (λ (s : Step). s .reply .values) (out .1) ∙ due-counted b ok;
-      kept = λ l below e. (
-        line l below ∙ (λ i. cond (e i) (colours r (b .vram) l) (lineAt (b .frame) l)),
-        note l below ∙ (λ i. cond (e i) (noteAt r (b .vram) l) (getD (b .notes) l 0)),
-      );
-      redrawn = λ l below e. (
-        line l below ∙ (λ i. cond (e i) (colours r (b .vram) l) (lineAt (b .frame) l)),
-        note l below ∙ (λ i. cond (e i) (noteAt r (b .vram) l) (getD (b .notes) l 0)),
-      );
+      kept = λ l below e. by-due b long l below same false e;
+      redrawn = λ l below e. by-due b long l below same true e;
     }
