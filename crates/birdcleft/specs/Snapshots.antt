@@ -1,28 +1,19 @@
 -- The snapshot calls from C.
 use Prim.Native.Nat.{ℕ}
-use mathlib.Core.List.{List, _∷_}
-use Rattle.chip.specs.Refusals.{refusalOf, ifAccepted, vramTest, sliceTest}
-use Rattle.chip.specs.Layout.{blockSize, chipOf, blockTests}
-use Rattle.chip.specs.declared.refusal.Refusal.{Refusal}
-use Rattle.snapshot.specs.Tests.{sizeTest}
+use mathlib.Core.List.{List}
 use Rattle.snapshot.specs.Calls as direct
-use Rattle.birdcleft.specs.Calls.{FromC, through}
+use Rattle.birdcleft.specs.Calls.{FromC, vramEntry, resultThrough, through, listThrough}
 
--- Reading tests the block's length, and not its contents, which it replaces.
-abbrev pub readRefusal : List ℕ → List ℕ → List ℕ → Refusal
-readRefusal block vram s = refusalOf (sliceTest blockSize block ∷ direct.readTests vram s)
-
+-- Reading replaces the state, and so takes a block of any 15 bytes.
 abbrev pub readSnapshot : List ℕ → List ℕ → List ℕ → FromC
-readSnapshot block vram s = through (readRefusal block vram s) block (λ c. direct.readSnapshot c vram s)
+readSnapshot block vram s = through (vramEntry block vram) block (λ c. direct.readSnapshot c vram s)
 
 abbrev pub readVram : List ℕ → List ℕ → List ℕ → List ℕ
-readVram block vram s = ifAccepted (readRefusal block vram s) (direct.readVram vram s) vram
+readVram block vram s = listThrough (vramEntry block vram) block (λ c. direct.readVram vram s) vram
 
-abbrev pub writeRefusal : List ℕ → List ℕ → List ℕ → Refusal
-writeRefusal block vram out = refusalOf (vramTest vram ∷ sizeTest out ∷ blockTests block)
-
-abbrev pub writeSnapshot : List ℕ → List ℕ → List ℕ → FromC
-writeSnapshot block vram out = through (writeRefusal block vram out) block (λ c. direct.writeSnapshot c vram out)
+-- The block is lent to read only, so there is a number alone.
+abbrev pub writeSnapshot : List ℕ → List ℕ → List ℕ → ℕ
+writeSnapshot block vram out = resultThrough (vramEntry block vram) block (λ c. direct.writeSnapshot c vram out)
 
 abbrev pub written : List ℕ → List ℕ → List ℕ → List ℕ
-written block vram out = ifAccepted (writeRefusal block vram out) (direct.written (chipOf block) vram out) out
+written block vram out = listThrough (vramEntry block vram) block (λ c. direct.written c vram out) out

@@ -1,37 +1,54 @@
-// The calls from C. Each loads the state from the lent block, makes the direct call and stores the next state.
+// The calls from C. Each makes the tests that must pass before the block can be decoded, loads the state, makes the direct
+// call, and stores the next state if the call was accepted.
 ghost use mathlib.Core.Path.{_≡_};
 ghost use Prim.Native.Nat.{_*_};
 ghost use lib.ListN.{length};
-ghost use Rattle.chip.specs.Refusals.{numberOf, resultOf, refusalOf};
-ghost use Rattle.chip.specs.Layout.{blockOf, blockTests};
+ghost use Rattle.chip.specs.Refusals.{numberOf, resultOf, ifAccepted};
+ghost use Rattle.chip.specs.Layout.{blockOf};
 ghost use Rattle.birdcleft.specs.Calls as calls;
 use chip::Answer;
-use chip::Chip;
 use chip::Refusal;
 
 mod frames;
 mod lines;
 mod snapshots;
 
-// 256 times the number of the refusal that the block gives: 0 where it holds a state.
-fn block_refused(block: &[u8]) -> u32
-    ensures { λ r. ⌜ r ≡ numberOf (refusalOf (blockTests (now (block .entry)))) * 256 ⌝ }
+// 256 times a refusal's number.
+fn result_of(refusal: Refusal) -> u32
+    ensures { λ r. ⌜ r ≡ numberOf refusal * 256 ⌝ }
 {
-    if block.len() != 15 {
-        return 512;
-    }
-    if !chip::holds_block(block) {
-        return 768;
-    }
-    0
+    refusal.number() * 256
 }
 
-// Stores the next state, and gives the answer as one number.
+// The same for the tests at entry: 0 where they pass.
+fn block_entry(block: &[u8]) -> u32
+    ensures { λ r. ⌜ r ≡ numberOf (calls.blockEntry (now (block .entry))) * 256 ⌝ }
+{
+    if block.len() != 15 {
+        return result_of(Refusal::SliceLength);
+    }
+    result_of(Refusal::Accepted)
+}
+
+fn vram_entry(block: &[u8], vram: &[u8]) -> u32
+    ensures { λ r. ⌜ r ≡ numberOf (calls.vramEntry (now (block .entry)) (now (vram .entry))) * 256 ⌝ }
+{
+    if vram.len() != 16384 {
+        return result_of(Refusal::VramLength);
+    }
+    block_entry(block)
+}
+
+// Stores the next state if the call was accepted, and gives the answer as one number.
 fn finish(answer: Answer, block: &mut [u8]) -> u32
     requires { ⌜ length (now block) ≡ 15 ⌝ }
     ensures { λ r. ⌜ r ≡ resultOf answer ⌝ }
-    ensures { λ _. ⌜ now (block .exit) ≡ blockOf (answer .chip) ⌝ }
+    ensures { λ _. ⌜ now (block .exit) ≡ ifAccepted (answer .refusal) (blockOf (answer .chip)) (now (block .entry)) ⌝ }
 {
+    let refusal = answer.refusal;
+    if refusal.number() != 0 {
+        return answer.number();
+    }
     let next = answer.chip;
     next.store(block);
     answer.number()
@@ -43,11 +60,9 @@ pub extern "C" fn vdp_power_up(block: &mut [u8], vram: &mut [u8]) -> u32
     ensures { λ _. ⌜ now (block .exit) ≡ calls.powerUp (now (block .entry)) (now (vram .entry)) .block ⌝ }
     ensures { λ _. ⌜ now (vram .exit) ≡ calls.powerUpVram (now (block .entry)) (now (vram .entry)) ⌝ }
 {
-    if vram.len() != 16384 {
-        return 256;
-    }
-    if block.len() != 15 {
-        return 512;
+    let refused = vram_entry(block, vram);
+    if refused != 0 {
+        return refused;
     }
     let answer = chip::load(block).power_up(vram);
     finish(answer, block)
@@ -58,10 +73,7 @@ pub extern "C" fn vdp_control_write(block: &mut [u8], vram: &[u8], byte: u8) -> 
     ensures { λ r. ⌜ r ≡ calls.controlWrite (now (block .entry)) (now (vram .entry)) byte .result ⌝ }
     ensures { λ _. ⌜ now (block .exit) ≡ calls.controlWrite (now (block .entry)) (now (vram .entry)) byte .block ⌝ }
 {
-    if vram.len() != 16384 {
-        return 256;
-    }
-    let refused = block_refused(block);
+    let refused = vram_entry(block, vram);
     if refused != 0 {
         return refused;
     }
@@ -76,13 +88,7 @@ pub extern "C" fn vdp_data_write(block: &mut [u8], vram: &mut [u8], map: &mut [u
     ensures { λ _. ⌜ now (vram .exit) ≡ calls.dataWriteVram (now (block .entry)) (now (vram .entry)) (now (map .entry)) byte ⌝ }
     ensures { λ _. ⌜ now (map .exit) ≡ calls.dataWriteMap (now (block .entry)) (now (vram .entry)) (now (map .entry)) ⌝ }
 {
-    if vram.len() != 16384 {
-        return 256;
-    }
-    if map.len() != 2048 {
-        return 512;
-    }
-    let refused = block_refused(block);
+    let refused = vram_entry(block, vram);
     if refused != 0 {
         return refused;
     }
@@ -95,10 +101,7 @@ pub extern "C" fn vdp_data_read(block: &mut [u8], vram: &[u8]) -> u32
     ensures { λ r. ⌜ r ≡ calls.dataRead (now (block .entry)) (now (vram .entry)) .result ⌝ }
     ensures { λ _. ⌜ now (block .exit) ≡ calls.dataRead (now (block .entry)) (now (vram .entry)) .block ⌝ }
 {
-    if vram.len() != 16384 {
-        return 256;
-    }
-    let refused = block_refused(block);
+    let refused = vram_entry(block, vram);
     if refused != 0 {
         return refused;
     }
@@ -111,7 +114,7 @@ pub extern "C" fn vdp_status_read(block: &mut [u8]) -> u32
     ensures { λ r. ⌜ r ≡ calls.statusRead (now (block .entry)) .result ⌝ }
     ensures { λ _. ⌜ now (block .exit) ≡ calls.statusRead (now (block .entry)) .block ⌝ }
 {
-    let refused = block_refused(block);
+    let refused = block_entry(block);
     if refused != 0 {
         return refused;
     }
@@ -124,7 +127,7 @@ pub extern "C" fn vdp_end_of_display(block: &mut [u8]) -> u32
     ensures { λ r. ⌜ r ≡ calls.endOfDisplay (now (block .entry)) .result ⌝ }
     ensures { λ _. ⌜ now (block .exit) ≡ calls.endOfDisplay (now (block .entry)) .block ⌝ }
 {
-    let refused = block_refused(block);
+    let refused = block_entry(block);
     if refused != 0 {
         return refused;
     }
@@ -134,9 +137,9 @@ pub extern "C" fn vdp_end_of_display(block: &mut [u8]) -> u32
 
 #[no_mangle]
 pub extern "C" fn vdp_interrupt_line(block: &[u8]) -> u32
-    ensures { λ r. ⌜ r ≡ calls.interruptLine (now (block .entry)) .result ⌝ }
+    ensures { λ r. ⌜ r ≡ calls.interruptLine (now (block .entry)) ⌝ }
 {
-    let refused = block_refused(block);
+    let refused = block_entry(block);
     if refused != 0 {
         return refused;
     }
@@ -148,7 +151,7 @@ pub extern "C" fn vdp_reset(block: &mut [u8]) -> u32
     ensures { λ r. ⌜ r ≡ calls.reset (now (block .entry)) .result ⌝ }
     ensures { λ _. ⌜ now (block .exit) ≡ calls.reset (now (block .entry)) .block ⌝ }
 {
-    let refused = block_refused(block);
+    let refused = block_entry(block);
     if refused != 0 {
         return refused;
     }

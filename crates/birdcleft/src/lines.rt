@@ -1,8 +1,8 @@
 // Drawing a line from C.
 ghost use mathlib.Core.Path.{_≡_};
 ghost use Rattle.birdcleft.specs.Lines as lines;
-use crate::block_refused;
 use crate::finish;
+use crate::vram_entry;
 
 #[no_mangle]
 pub extern "C" fn vdp_draw_line(block: &mut [u8], vram: &[u8], line: &mut [u8], number: u32) -> u32
@@ -10,18 +10,9 @@ pub extern "C" fn vdp_draw_line(block: &mut [u8], vram: &[u8], line: &mut [u8], 
     ensures { λ _. ⌜ now (block .exit) ≡ lines.drawLine (now (block .entry)) (now (vram .entry)) (now (line .entry)) number .block ⌝ }
     ensures { λ _. ⌜ now (line .exit) ≡ lines.drawLineLine (now (block .entry)) (now (vram .entry)) (now (line .entry)) number ⌝ }
 {
-    if vram.len() != 16384 {
-        return 256;
-    }
-    if line.len() != 256 {
-        return 512;
-    }
-    let refused = block_refused(block);
+    let refused = vram_entry(block, vram);
     if refused != 0 {
         return refused;
-    }
-    if 191 < number {
-        return 1024;
     }
     let answer = scanline::draw_line(chip::load(block), vram, line, number);
     finish(answer, block)

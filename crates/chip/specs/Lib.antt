@@ -1,4 +1,5 @@
--- The definitions that the contracts cite, in the order of the sections "State and ports" and "Refusal numbers".
+-- The definitions that the contracts cite: of numbers and lists; of the sections "State and ports" and "Refusal numbers"; and
+-- of modes and tables, from which the crates that draw go on.
 pub mod Bits
 pub mod Lists
 pub mod Ranges

@@ -54,24 +54,65 @@ masked registers = allBelow 8 (obeys registers)
 unfoldable pub wellFormed : Chip → Bool
 wellFormed c = masked (c .registers) && leb (c .address) 16383
 
--- The state with one thing changed.
+-- The state's fields as a chain of pairs, so that one of them can be changed and the rest passed on.
+abbrev pub Fields : Type 0
+Fields = List ℕ × (ℕ × (ℕ × (Waiting × (ℕ × (Bool × Unit {0})))))
+
+-- The state built again from its fields after a change to their chain.
+abbrev pub rebuilt : (Fields → Fields) → Chip → Chip
+rebuilt change c =
+    let f : Fields = change (c .registers, (c .address, (c .buffer, (c .waiting, (c .status, (c .redraw, tt)))))) in
+    record {
+      registers = f .0;
+      address = f .1 .0;
+      buffer = f .1 .1 .0;
+      waiting = f .1 .1 .1 .0;
+      status = f .1 .1 .1 .1 .0;
+      redraw = f .1 .1 .1 .1 .1 .0;
+    }
+
+-- A chain with its head replaced, and with its tail changed.
+module _ {A B C : Type 0} where
+  abbrev pub headTo : C → A × B → C × B
+  headTo v p = (v, p .1)
+
+  abbrev pub inTail : (B → C) → A × B → A × C
+  inTail f p = (p .0, f (p .1))
+
+-- One field changed. (A further field is an entry in `Fields` and in `rebuilt`, and a line here and in `changed`.)
+pub data Change : Type 0 where
+  registersTo : List ℕ → Change
+  addressTo : ℕ → Change
+  bufferTo : ℕ → Change
+  waitingTo : Waiting → Change
+  statusTo : ℕ → Change
+  redrawTo : Bool → Change
+
+abbrev pub changed : Change → Chip → Chip
+changed (registersTo l) c = rebuilt (headTo l) c
+changed (addressTo a) c = rebuilt (inTail (headTo a)) c
+changed (bufferTo b) c = rebuilt (inTail (inTail (headTo b))) c
+changed (waitingTo w) c = rebuilt (inTail (inTail (inTail (headTo w)))) c
+changed (statusTo s) c = rebuilt (inTail (inTail (inTail (inTail (headTo s))))) c
+changed (redrawTo m) c = rebuilt (inTail (inTail (inTail (inTail (inTail (headTo m)))))) c
+
 abbrev pub withRegisters : List ℕ → Chip → Chip
-withRegisters l c = record { registers = l; address = c .address; buffer = c .buffer; waiting = c .waiting; status = c .status; redraw = c .redraw }
+withRegisters l c = changed (registersTo l) c
 
 abbrev pub withAddress : ℕ → Chip → Chip
-withAddress a c = record { registers = c .registers; address = a; buffer = c .buffer; waiting = c .waiting; status = c .status; redraw = c .redraw }
+withAddress a c = changed (addressTo a) c
 
 abbrev pub withBuffer : ℕ → Chip → Chip
-withBuffer b c = record { registers = c .registers; address = c .address; buffer = b; waiting = c .waiting; status = c .status; redraw = c .redraw }
+withBuffer b c = changed (bufferTo b) c
 
 abbrev pub withWaiting : Waiting → Chip → Chip
-withWaiting w c = record { registers = c .registers; address = c .address; buffer = c .buffer; waiting = w; status = c .status; redraw = c .redraw }
+withWaiting w c = changed (waitingTo w) c
 
 abbrev pub withStatus : ℕ → Chip → Chip
-withStatus s c = record { registers = c .registers; address = c .address; buffer = c .buffer; waiting = c .waiting; status = s; redraw = c .redraw }
+withStatus s c = changed (statusTo s) c
 
 abbrev pub withRedraw : Bool → Chip → Chip
-withRedraw m c = record { registers = c .registers; address = c .address; buffer = c .buffer; waiting = c .waiting; status = c .status; redraw = m }
+withRedraw m c = changed (redrawTo m) c
 
 -- That a list holds bytes.
 abbrev pub Bytes : List ℕ → Type 0

@@ -1,6 +1,5 @@
 // The 14-byte state layout, and the 15-byte state block that adds the redraw mark.
 ghost use mathlib.Core.Path.{_≡_};
-ghost use mathlib.Core.Bool.{true};
 ghost use Prim.Native.Nat.{_≤_};
 ghost use lib.ListN.{length, take};
 ghost use Rattle.chip.specs.State.{waitingOf};
@@ -26,10 +25,26 @@ fn waiting_of(flag: u8, first: u8) -> Waiting
     }
 }
 
-// The state that the first 14 bytes hold, with the redraw mark given.
-pub fn decode(b: &[u8], redraw: bool) -> Chip
+// Whether the waiting flag and the first byte are those of a state.
+fn waiting_valid(flag: u8, first: u8) -> bool
+    ensures { λ r. ⌜ r ≡ layout.waitingValid flag first ⌝ }
+{
+    (flag == 1) | ((flag == 0) & (first == 0))
+}
+
+// What bytes that encode no state decode to: its address is too large for every call.
+fn ill_formed_state() -> Chip
+    ensures { λ r. ⌜ r ≡ layout.illFormedState ⌝ }
+{
+    let mut ill_formed = Chip::power_up_state();
+    ill_formed.address = 65535;
+    ill_formed
+}
+
+// The fields as the first 14 bytes have them, with the redraw mark given.
+fn state_in(b: &[u8], redraw: bool) -> Chip
     requires { ⌜ 14 ≤ length (now b) ⌝ }
-    ensures { λ r. ⌜ r ≡ layout.decoded (now (b .entry)) redraw ⌝ }
+    ensures { λ r. ⌜ r ≡ layout.stateIn (now (b .entry)) redraw ⌝ }
 {
     let registers = registers_of(b);
     let waiting = waiting_of(b[11], b[12]);
@@ -43,27 +58,26 @@ pub fn decode(b: &[u8], redraw: bool) -> Chip
     }
 }
 
-// Whether the first 14 bytes hold a state.
-pub fn holds_state(b: &[u8]) -> bool
+// The state that the first 14 bytes hold.
+pub fn decode(b: &[u8], redraw: bool) -> Chip
     requires { ⌜ 14 ≤ length (now b) ⌝ }
-    ensures { λ r. ⌜ r ≡ layout.holdsState (now (b .entry)) ⌝ }
+    ensures { λ r. ⌜ r ≡ layout.decoded (now (b .entry)) redraw ⌝ }
 {
-    let flag_holds = (b[11] == 1) | ((b[11] == 0) & (b[12] == 0));
-    flag_holds & decode(b, true).is_well_formed()
+    if !waiting_valid(b[11], b[12]) {
+        return ill_formed_state();
+    }
+    state_in(b, redraw)
 }
 
+// The state that a block holds.
 pub fn load(b: &[u8]) -> Chip
     requires { ⌜ length (now b) ≡ 15 ⌝ }
     ensures { λ r. ⌜ r ≡ layout.chipOf (now (b .entry)) ⌝ }
 {
+    if 1 < b[14] {
+        return ill_formed_state();
+    }
     decode(b, b[14] == 1)
-}
-
-pub fn holds_block(b: &[u8]) -> bool
-    requires { ⌜ length (now b) ≡ 15 ⌝ }
-    ensures { λ r. ⌜ r ≡ layout.holdsBlock (now (b .entry)) ⌝ }
-{
-    (b[14] <= 1) & holds_state(b)
 }
 
 pub type Layout = [u8; 14];

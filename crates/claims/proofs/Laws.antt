@@ -1,16 +1,11 @@
 -- Laws that the claims rest on.
 pub mod Registers
 pub mod States
-pub mod Turns
-pub mod Good
-pub mod Tests
-pub mod Blocks
-pub mod Lent
-pub mod Refused
+pub mod ControlWrites
+pub mod Invariant
+pub mod Lawful
 pub mod Draws
-pub mod Direct
-pub mod FromC
-pub mod Wrong
-pub mod Keeps
-pub mod Accepted
-pub mod Opens
+pub mod Calls
+pub mod Lent
+pub mod Outcomes
+pub mod Steps

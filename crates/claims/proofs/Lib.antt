@@ -1,6 +1,7 @@
 -- The theorems. Laws are what they rest on.
 pub mod Cases
 pub mod Demand3
+pub mod RefreshedLines
 pub mod AfterAnyCalls
 pub mod RefusedCalls
 pub mod AnyBlock

@@ -17,33 +17,34 @@ pub record Case : Type 1 where
   pub number : ℕ
   pub claim : Type 0
 
--- A state, and what is lent to the port calls.
-pub record Held : Type 0 where
+-- The state, and the lists that the port calls are lent.
+pub record PortBench : Type 0 where
   pub chip : Chip
   pub vram : List ℕ
   pub map : List ℕ
 
 -- The port calls of the cases, one after another.
-abbrev pub control : ℕ → Held → Held
-control b h = record { chip = controlWrite (h .chip) (h .vram) b .chip; vram = h .vram; map = h .map }
+abbrev pub control : ℕ → PortBench → PortBench
+control b p = record { chip = controlWrite (p .chip) (p .vram) b .chip; vram = p .vram; map = p .map }
 
-abbrev pub write : ℕ → Held → Held
-write b h =
+abbrev pub write : ℕ → PortBench → PortBench
+write b p =
     record {
-      chip = dataWrite (h .chip) (h .vram) (h .map) b .chip;
-      vram = dataWriteVram (h .chip) (h .vram) (h .map) b;
-      map = dataWriteMap (h .chip) (h .vram) (h .map);
+      chip = dataWrite (p .chip) (p .vram) (p .map) b .chip;
+      vram = dataWriteVram (p .chip) (p .vram) (p .map) b;
+      map = dataWriteMap (p .chip) (p .vram) (p .map);
     }
 
-abbrev pub status : Held → Held
-status h = record { chip = statusRead (h .chip) .chip; vram = h .vram; map = h .map }
+abbrev pub status : PortBench → PortBench
+status p = record { chip = statusRead (p .chip) .chip; vram = p .vram; map = p .map }
 
 -- Different bytes at 3FFF, 0, 42 and 43, so that a wrong address shows.
 abbrev pub memory : List ℕ
 memory = set (set (set (set (replicate 16384 0) 0x3FFF 0x5C) 0 0xA3) 0x42 0x17) 0x43 0x2E
 
-abbrev pub noMarks : List ℕ
-noMarks = replicate 2048 0
+-- No byte is dirty.
+abbrev pub noneDirty : List ℕ
+noneDirty = replicate 2048 0
 
 -- No register, address, buffer or status is zero, and the redraw mark is clear.
 abbrev pub registers : List ℕ
@@ -53,20 +54,20 @@ abbrev pub state : ℕ → ℕ → Waiting → ℕ → Chip
 state address buffer waiting status =
     record { registers = registers; address = address; buffer = buffer; waiting = waiting; status = status; redraw = false }
 
-abbrev pub start : Held
-start = record { chip = state 0x1234 0x99 Nothing 0x4C; vram = memory; map = noMarks }
+abbrev pub start : PortBench
+start = record { chip = state 0x1234 0x99 Nothing 0x4C; vram = memory; map = noneDirty }
 
 -- P1: control 42, 40, data AA: VRAM 0042 and the buffer are AA, the address 0043; the byte is dirty, and all else stays.
 abbrev pub P1 : Type 0
-P1 = write 0xAA (control 0x40 (control 0x42 start)) ≡ record { chip = state 0x43 0xAA Nothing 0x4C; vram = set memory 0x42 0xAA; map = set noMarks 8 4 }
+P1 = write 0xAA (control 0x40 (control 0x42 start)) ≡ record { chip = state 0x43 0xAA Nothing 0x4C; vram = set memory 0x42 0xAA; map = set noneDirty 8 4 }
 
 -- P2: control FF, 7F, data 11: VRAM 3FFF is 11, and the address goes on to 0.
 abbrev pub P2 : Type 0
-P2 = write 0x11 (control 0x7F (control 0xFF start)) ≡ record { chip = state 0 0x11 Nothing 0x4C; vram = set memory 0x3FFF 0x11; map = set noMarks 2047 128 }
+P2 = write 0x11 (control 0x7F (control 0xFF start)) ≡ record { chip = state 0 0x11 Nothing 0x4C; vram = set memory 0x3FFF 0x11; map = set noneDirty 2047 128 }
 
 -- P3: control FF, 3F: the buffer is VRAM 3FFF, and the address goes on to 0.
 abbrev pub P3 : Type 0
-P3 = control 0x3F (control 0xFF start) ≡ record { chip = state 0 0x5C Nothing 0x4C; vram = memory; map = noMarks }
+P3 = control 0x3F (control 0xFF start) ≡ record { chip = state 0 0x5C Nothing 0x4C; vram = memory; map = noneDirty }
 
 -- P4: control FF, 82: register 2 keeps 0F, and the address is 02FF; the register altered, so the redraw mark is set.
 abbrev pub P4 : Type 0
@@ -83,12 +84,12 @@ P4 =
             redraw = true;
           };
       vram = memory;
-      map = noMarks;
+      map = noneDirty;
     }
 
 -- P5: control FF, status read, control 07: 07 waits, as the status read dropped FF. Address and registers stay.
 abbrev pub P5 : Type 0
-P5 = control 0x07 (status (control 0xFF start)) ≡ record { chip = state 0x1234 0x99 (First 0x07) 0x0C; vram = memory; map = noMarks }
+P5 = control 0x07 (status (control 0xFF start)) ≡ record { chip = state 0x1234 0x99 (First 0x07) 0x0C; vram = memory; map = noneDirty }
 
 -- A memory for one sprite: attributes at 1000 with a terminator behind it, its pattern at 1800, its colour 15. Names,
 -- patterns and colours of the plane are zero.

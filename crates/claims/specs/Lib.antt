@@ -1,7 +1,8 @@
--- The cases at the edges; then what demand 3 speaks of: a bench, its calls, what a step does, what it is refused for.
+-- The cases at the edges; then what demand 3 speaks of: a bench, its calls and their descriptions, what a step does, what can hold after it.
 pub mod Cases
 pub mod Bench
 pub mod Call
+pub mod Description
+pub mod Descriptions
 pub mod Step
-pub mod Refusals
 pub mod After

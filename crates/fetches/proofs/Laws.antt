@@ -37,15 +37,11 @@ module _ {A B : Type 0} where
 
 module _ {A : Type 0} (f : ℕ → Fetch A) (m : List ℕ) where
   -- the list of answers: its first, and the rest
-  pub value-each : (i n : ℕ) → value (each i (suc n) f) m ≡ value (f i) m ∷ value (each (suc i) n f) m
+  value-each : (i n : ℕ) → value (each i (suc n) f) m ≡ value (f i) m ∷ value (each (suc i) n f) m
   unfolding each value
   value-each i n =
       value-followed (f i) (λ a. followed (each (suc i) n f) (λ l. answer (a ∷ l))) m
       ∙ value-followed (each (suc i) n f) (λ l. answer (value (f i) m ∷ l)) m
-
-  pub value-none : (i : ℕ) → value (each i zero f) m ≡ []
-  unfolding each value
-  value-none i = refl
 
   pub getD-each : (i n k : ℕ) (d : A) → k < n → getD (value (each i n f) m) k d ≡ value (f (i + k)) m
   getD-each i zero k d h = absurd (not-suc-le-zero h)
@@ -53,13 +49,13 @@ module _ {A : Type 0} (f : ℕ → Fetch A) (m : List ℕ) where
   getD-each i (suc n) (suc k) d h =
       rw value-each (getD-each (suc i) n k d (le-of-suc-le-suc h) ∙ ap (λ (j : ℕ). value (f j) m) (suc-add i k ∙ sym (add-suc i k)))
 
-  pub fetched-each : (i n : ℕ) → fetched (each i (suc n) f) m ≡ fetched (f i) m ++ fetched (each (suc i) n f) m
+  fetched-each : (i n : ℕ) → fetched (each i (suc n) f) m ≡ fetched (f i) m ++ fetched (each (suc i) n f) m
   unfolding each value fetched
   fetched-each i n =
       fetched-followed (f i) (λ a. followed (each (suc i) n f) (λ l. answer (a ∷ l))) m
       ∙ ap (λ (l : List ℕ). fetched (f i) m ++ l) (fetched-followed (each (suc i) n f) (λ l. answer (value (f i) m ∷ l)) m ∙ append-nil (fetched (each (suc i) n f) m))
 
-  pub fetched-none : (i : ℕ) → fetched (each i zero f) m ≡ []
+  fetched-none : (i : ℕ) → fetched (each i zero f) m ≡ []
   unfolding each fetched
   fetched-none i = refl
 

@@ -1,5 +1,5 @@
 -- A description of what is read: it fetches the byte at an address and goes on by what it found, until it has its answer.
--- What it answers and which addresses it fetches are both read off the one description, so they cannot drift apart.
+-- What it answers and which addresses it fetches are both read off the one description, so that the two always agree.
 use Prim.Native.Nat.{ℕ, zero, suc}
 use mathlib.Core.Path.{_≡_}
 use mathlib.Core.Bool.{Bool, false, _||_}

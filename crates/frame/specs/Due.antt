@@ -2,18 +2,22 @@
 use Prim.Native.Nat.{ℕ}
 use mathlib.Core.Bool.{Bool, cond, _||_}
 use mathlib.Core.List.{List}
-use lib.ListN.{getD}
+use lib.Dec.{eqb}
+use lib.ListN.{length, getD}
 use Rattle.chip.specs.Lists.{tabulate}
+use Rattle.chip.specs.Ranges.{allBelow}
 use Rattle.fetches.specs.Fetch.{fetched, anyDirty}
 use Rattle.scanline.specs.Line.{lineOf}
 use Rattle.scanline.specs.Calls.{noteAt, colours}
 use Rattle.frame.specs.Lines.{lineCount, endToEnd, lineAt, countBelow}
 
--- Whether line l has to be redrawn: always while the redraw mark is set, otherwise if a byte that it fetches is dirty.
+-- Whether line l is "due", as the scope calls it: always while the redraw mark is set, otherwise if a byte that it fetches is
+-- dirty.
 unfoldable pub due : Bool → List ℕ → List ℕ → List ℕ → ℕ → Bool
 due redraw r vram map l = redraw || anyDirty map (fetched (lineOf r l) vram)
 
--- Line l of the frame after a refresh, and its note: drawn anew if due, as lent if not.
+-- Line l of the frame after a refresh, and its note. A due line is "redrawn", in the scope's word: both become those of a
+-- full draw. Any other line keeps both as lent.
 abbrev pub newLine : Bool → List ℕ → List ℕ → List ℕ → List ℕ → ℕ → List ℕ
 newLine redraw r vram map frame l = cond (due redraw r vram map l) (colours r vram l) (lineAt frame l)
 
@@ -29,3 +33,7 @@ newNotes redraw r vram map notes = tabulate lineCount (newNote redraw r vram map
 -- What a refresh reports: the count of due lines among the 192.
 abbrev pub dueCount : Bool → List ℕ → List ℕ → List ℕ → ℕ
 dueCount redraw r vram map = countBelow lineCount (due redraw r vram map)
+
+-- Whether the map is clear: every byte of it is 0.
+unfoldable pub isClear : List ℕ → Bool
+isClear map = allBelow (length map) (λ k. eqb (getD map k 0) 0)

@@ -1,10 +1,5 @@
 // The calls: full draw and refresh.
 ghost use mathlib.Core.Path.{_≡_};
-ghost use mathlib.Core.Bool.{true};
-ghost use lib.ListN.{length};
-ghost use Rattle.chip.specs.State.{masked};
-ghost use Rattle.frame.specs.Draw.{clearMap, drawnState};
-ghost use Rattle.frame.specs.Due.{newFrame, newNotes, dueCount};
 ghost use Rattle.frame.specs.Calls as calls;
 use crate::lines::redraw_lines;
 use crate::status::status_through;
@@ -35,7 +30,8 @@ fn tested(chip: Chip, vram: &[u8], map: &[u8], frame: &[u8], notes: &[u8]) -> Re
     Refusal::Accepted
 }
 
-// Redraws what is due with this redraw mark, updates status by all notes, and clears map and redraw mark. Answers the count.
+// What both calls do: the tests; then what is due with this redraw mark is redrawn, status is updated by all notes, and map and
+// redraw mark are cleared. Answers the count.
 fn draw_due(
     chip: Chip,
     redraw: bool,
@@ -44,12 +40,15 @@ fn draw_due(
     frame: &mut [u8],
     notes: &mut [u8],
 ) -> Answer
-    requires { ⌜ (masked (chip .registers) ≡ true) × (length (now vram) ≡ 16384) × (length (now map) ≡ 2048) × (length (now frame) ≡ 49152) × (length (now notes) ≡ 192) ⌝ }
-    ensures { λ r. ⌜ r ≡ record { chip = drawnState chip (newNotes redraw (chip .registers) (now (vram .entry)) (now (map .entry)) (now (notes .entry))); refusal = Refusal.Accepted; value = dueCount redraw (chip .registers) (now (vram .entry)) (now (map .entry)) } ⌝ }
-    ensures { λ _. ⌜ now (map .exit) ≡ clearMap ⌝ }
-    ensures { λ _. ⌜ now (frame .exit) ≡ newFrame redraw (chip .registers) (now (vram .entry)) (now (map .entry)) (now (frame .entry)) ⌝ }
-    ensures { λ _. ⌜ now (notes .exit) ≡ newNotes redraw (chip .registers) (now (vram .entry)) (now (map .entry)) (now (notes .entry)) ⌝ }
+    ensures { λ r. ⌜ r ≡ calls.drawDue redraw chip (now (vram .entry)) (now (map .entry)) (now (frame .entry)) (now (notes .entry)) ⌝ }
+    ensures { λ _. ⌜ now (map .exit) ≡ calls.drawMap chip (now (vram .entry)) (now (map .entry)) (now (frame .entry)) (now (notes .entry)) ⌝ }
+    ensures { λ _. ⌜ now (frame .exit) ≡ calls.drawDueFrame redraw chip (now (vram .entry)) (now (map .entry)) (now (frame .entry)) (now (notes .entry)) ⌝ }
+    ensures { λ _. ⌜ now (notes .exit) ≡ calls.drawDueNotes redraw chip (now (vram .entry)) (now (map .entry)) (now (frame .entry)) (now (notes .entry)) ⌝ }
 {
+    let refusal = tested(chip, vram, map, frame, notes);
+    if refusal.number() != 0 {
+        return chip.refused(refusal);
+    }
     let registers = chip.registers;
     let redrawn = redraw_lines(redraw, registers, vram, map, frame, notes);
     let mut next = chip;
@@ -59,7 +58,8 @@ fn draw_due(
     next.accepted(redrawn)
 }
 
-// Draws every line into the frame, whatever it held; notes, status, map and redraw mark are then those of a fresh draw.
+// Draws every line into the frame, whatever it held, as if the redraw mark were set; notes, status, map and redraw mark are
+// then those of a fresh draw.
 pub fn full_draw(
     chip: Chip,
     vram: &[u8],
@@ -72,13 +72,9 @@ pub fn full_draw(
     ensures { λ _. ⌜ now (frame .exit) ≡ calls.fullDrawFrame chip (now (vram .entry)) (now (map .entry)) (now (frame .entry)) (now (notes .entry)) ⌝ }
     ensures { λ _. ⌜ now (notes .exit) ≡ calls.fullDrawNotes chip (now (vram .entry)) (now (map .entry)) (now (frame .entry)) (now (notes .entry)) ⌝ }
 {
-    let refusal = tested(chip, vram, map, frame, notes);
-    if refusal.number() != 0 {
-        return chip.refused(refusal);
-    }
-    let drawn = draw_due(chip, true, vram, map, frame, notes);
-    let next = drawn.chip;
-    next.accepted(0)
+    let mut answer = draw_due(chip, true, vram, map, frame, notes);
+    answer.value = 0;
+    answer
 }
 
 // Redraws the lines that are due, and answers how many.
@@ -94,9 +90,5 @@ pub fn refresh(
     ensures { λ _. ⌜ now (frame .exit) ≡ calls.refreshFrame chip (now (vram .entry)) (now (map .entry)) (now (frame .entry)) (now (notes .entry)) ⌝ }
     ensures { λ _. ⌜ now (notes .exit) ≡ calls.refreshNotes chip (now (vram .entry)) (now (map .entry)) (now (frame .entry)) (now (notes .entry)) ⌝ }
 {
-    let refusal = tested(chip, vram, map, frame, notes);
-    if refusal.number() != 0 {
-        return chip.refused(refusal);
-    }
     draw_due(chip, chip.redraw, vram, map, frame, notes)
 }

@@ -1,5 +1,6 @@
 -- Laws about the definitions of specs/.
 pub mod Cells
+pub mod Within
 pub mod Plane
 pub mod Painted
 pub mod Pixel

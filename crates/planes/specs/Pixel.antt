@@ -7,7 +7,7 @@ use mir.Val.{boolByte}
 use Rattle.chip.specs.Modes.{externalVideo}
 use Rattle.chip.specs.State.{register}
 
--- A colour in front of another: 0 lets the other through.
+-- A colour in front of another: 0 is transparent, and the other shows.
 abbrev pub over : ℕ → ℕ → ℕ
 over front behind = cond (eqb front 0) behind front
 

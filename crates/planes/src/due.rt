@@ -29,7 +29,7 @@ fn pattern_or_colours_dirty(mode: Mode, r: [u8; 8], map: &[u8], l: usize, name: 
     pattern_dirty(mode, r, map, l, name) | is_dirty(map, colour_address(mode, r, l, name))
 }
 
-// Of what is fetched for a name on line l. Where that stands does not turn on memory.
+// Of what is fetched for a name on line l. Where that stands does not depend on VRAM.
 fn shape_dirty(mode: Mode, r: [u8; 8], map: &[u8], l: usize, name: u8) -> bool
     requires { ⌜ (masked r ≡ true) × (length (now map) ≡ 2048) × (l < 192) ⌝ }
     ensures { λ b. ⌜ ((m : List ℕ) → b ≡ anyDirty (now (map .entry)) (fetched (shapeOf mode r l name) m)) ⌝ }

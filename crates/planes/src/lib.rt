@@ -6,9 +6,6 @@ mod paint;
 mod pixel;
 mod plane;
 
-pub use cell::Cell;
-pub use cell::cell_of;
 pub use due::plane_dirty;
-pub use pixel::behind_planes;
 pub use pixel::over;
 pub use plane::draw_plane;

@@ -3,7 +3,7 @@ ghost use mathlib.Core.Path.{_≡_};
 ghost use Rattle.planes.specs.Pixel as pixel;
 use chip::bit;
 
-// A colour in front of another: 0 lets the other through.
+// A colour in front of another: 0 is transparent, and the other shows.
 pub fn over(front: u8, behind: u8) -> u8
     ensures { λ r. ⌜ r ≡ pixel.over front behind ⌝ }
 {

@@ -1,7 +1,7 @@
 -- The call that draws a line.
 use Prim.Native.Nat.{ℕ}
 use mathlib.Core.List.{List, [], _∷_}
-use Rattle.chip.specs.Refusals.{vramTest, sliceTest, stateTest, lineTest, refusalOf, ifAccepted, answered}
+use Rattle.chip.specs.Refusals.{Test, vramTest, sliceTest, stateTest, lineTest, refusalOf, ifAccepted, answered}
 use Rattle.chip.specs.State.{withStatus}
 use Rattle.chip.specs.declared.state.Chip.{Chip}
 use Rattle.chip.specs.declared.refusal.Answer.{Answer}
@@ -21,8 +21,11 @@ noteAt r vram l = noteOf r (value (lineOf r l) vram)
 abbrev pub colours : List ℕ → List ℕ → ℕ → List ℕ
 colours r vram l = coloursOf r (value (lineOf r l) vram)
 
+abbrev pub drawLineTests : Chip → List ℕ → List ℕ → ℕ → List Test
+drawLineTests c vram line l = vramTest vram ∷ stateTest c ∷ sliceTest lineSize line ∷ lineTest l ∷ []
+
 abbrev pub drawLineRefusal : Chip → List ℕ → List ℕ → ℕ → Refusal
-drawLineRefusal c vram line l = refusalOf (vramTest vram ∷ sliceTest lineSize line ∷ stateTest c ∷ lineTest l ∷ [])
+drawLineRefusal c vram line l = refusalOf (drawLineTests c vram line l)
 
 -- The line's note updates status, and nothing else of the state changes.
 abbrev pub drawLine : Chip → List ℕ → List ℕ → ℕ → Answer

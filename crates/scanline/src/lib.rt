@@ -1,4 +1,4 @@
-// A line: its pattern plane, its sprites and its note; the call that draws it, and the test whether it is due.
+// A line: its pattern plane, its sprites and its note; the call that draws it, and the test whether a byte that it fetches is dirty.
 mod call;
 mod draw;
 mod due;

@@ -18,7 +18,7 @@ use Rattle.snapshot.proofs.Laws.Bytes.{bytes-snapshot}
 use Rattle.snapshot.proofs.Laws.Parts.{length-vram}
 use Rattle.snapshot.proofs.Laws.Refusals.{write-accepted, read-accepted, accepted-readable}
 use Rattle.snapshot.proofs.Laws.Written.{readable, state-back, vram-back}
-use Rattle.snapshot.proofs.Laws.Accepted.{held-well-formed, file-back}
+use Rattle.snapshot.proofs.Laws.Accepted.{file-back}
 
 -- Take any well-formed state whose values fit their types, any 16,384 bytes of VRAM, and a slice of 16,406 to write to,
 -- whatever it holds; let the reader have any state and any VRAM of its own. Then writing is accepted, what it writes are
@@ -61,7 +61,7 @@ read-written file bytes other old reads out room =
     let held : Chip = decoded (stateBytes file) true in
     let state : readSnapshot other old file .chip ≡ held = the-new reads held other in
     let vram : readVram old file ≡ vramBytes file = the-new reads (vramBytes file) old in
-    let writes : writeRefusal held (vramBytes file) out ≡ Accepted = write-accepted held (vramBytes file) out (length-vram file (r .whole)) room (held-well-formed file bytes r) in
+    let writes : writeRefusal held (vramBytes file) out ≡ Accepted = write-accepted held (vramBytes file) out (length-vram file (r .whole)) room (r .holds) in
     rw (state, vram) (writes, the-new writes (snapshotOf held (vramBytes file)) out ∙ file-back file bytes r)
 
 -- The snapshot of the power-up state and cleared VRAM ends in the trailer 56 31 0E 00 0E 40 E3 00.

@@ -11,8 +11,11 @@ use Rattle.chip.specs.declared.refusal.Refusal.{Refusal}
 use Rattle.snapshot.specs.Format.{snapshotOf}
 use Rattle.snapshot.specs.Tests.{stateBytes, vramBytes, sizeTest, trailerTest, sumTest, contentsTest}
 
+abbrev pub writeTests : Chip → List ℕ → List ℕ → List Test
+writeTests c vram out = vramTest vram ∷ stateTest c ∷ sizeTest out ∷ []
+
 abbrev pub writeRefusal : Chip → List ℕ → List ℕ → Refusal
-writeRefusal c vram out = refusalOf (vramTest vram ∷ sizeTest out ∷ stateTest c ∷ [])
+writeRefusal c vram out = refusalOf (writeTests c vram out)
 
 -- Writing hands the state back as it was.
 abbrev pub writeSnapshot : Chip → List ℕ → List ℕ → Answer

@@ -1,13 +1,13 @@
 -- What stands where in a snapshot, found from its end, and the tests of it.
 use Prim.Native.Nat.{ℕ, _+_, _-_, _*_}
-use mathlib.Core.Bool.{Bool, _&&_}
+use mathlib.Core.Bool.{Bool, true, _&&_}
 use mathlib.Core.List.{List}
 use lib.Dec.{eqb}
 use lib.ListN.{length, getD, take, drop}
 use Rattle.chip.specs.State.{vramSize}
-use Rattle.chip.specs.Layout.{holdsState}
-use Rattle.chip.specs.Refusals.{Test}
-use Rattle.chip.specs.declared.refusal.Refusal.the-variants.{IllFormed, SnapshotLength, Trailer, Checksum}
+use Rattle.chip.specs.Layout.{decoded}
+use Rattle.chip.specs.Refusals.{Test, stateTest}
+use Rattle.chip.specs.declared.refusal.Refusal.the-variants.{SnapshotLength, Trailer, Checksum}
 use Rattle.snapshot.specs.Format.{snapshotSize, trailerSize, toBlock, toVram, checksum}
 
 -- Where the trailer starts, and where its sum does.
@@ -40,7 +40,7 @@ pointsBack s =
 unfoldable pub sumRight : List ℕ → Bool
 sumRight s = eqb (pairAt s (sumAt s)) (checksum (take (sumAt s) s))
 
--- The tests of a snapshot: its length, its signature and distances, its sum, and that its 14 bytes hold a state.
+-- The tests of a snapshot: its length, its signature and distances, its sum, and that the state in it is well-formed.
 abbrev pub sizeTest : List ℕ → Test
 sizeTest s = record { refusal = SnapshotLength; passes = eqb (length s) snapshotSize }
 
@@ -51,4 +51,4 @@ abbrev pub sumTest : List ℕ → Test
 sumTest s = record { refusal = Checksum; passes = sumRight s }
 
 abbrev pub contentsTest : List ℕ → Test
-contentsTest s = record { refusal = IllFormed; passes = holdsState (stateBytes s) }
+contentsTest s = stateTest (decoded (stateBytes s) true)

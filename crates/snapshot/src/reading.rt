@@ -26,11 +26,10 @@ pub fn read(chip: Chip, vram: &mut [u8], snapshot: &[u8]) -> Answer
     if !sum_is_right(snapshot) {
         return chip.refused(Refusal::Checksum);
     }
-    let state = state_bytes(snapshot);
-    if !chip::holds_state(state) {
+    let next = chip::decode(state_bytes(snapshot), true);
+    if !next.is_well_formed() {
         return chip.refused(Refusal::IllFormed);
     }
     chip::copy(vram, vram_bytes(snapshot));
-    let next = chip::decode(state, true);
     next.accepted(0)
 }

@@ -1,5 +1,6 @@
 -- Laws about the definitions of specs/.
 pub mod Bounds
+pub mod Within
 pub mod Scan
 pub mod Columns
 pub mod Paint

@@ -5,21 +5,23 @@ use mathlib.Core.List.{List, [], _∷_}
 use lib.Dec.{eqb}
 use Rattle.chip.specs.Bits.{bit}
 use Rattle.chip.specs.Modes.{largeSprites, magnified}
-use Rattle.chip.specs.State.{register}
+use Rattle.chip.specs.Tables.{attributes, spritePatterns, base}
+use Rattle.chip.specs.declared.mode.Mode.the-variants.{GraphicsI}
 use Rattle.fetches.specs.Fetch.{Fetch, answer, fetch, followed}
 use Rattle.sprites.specs.Shape.{scaled, rowOffset, covers}
 use Rattle.sprites.specs.declared.scan.Ended.{Ended}
 use Rattle.sprites.specs.declared.scan.Ended.the-variants.{Terminator, Fifth, All}
 use Rattle.sprites.specs.declared.sprite.Sprite.{Sprite}
 
--- Attribute k of sprite n (Y, X, name, colour byte).
+-- Attribute k of sprite n (Y, X, name, colour byte). The sprites' two tables begin at the same place in every mode, so that
+-- any mode with sprites can stand here.
 abbrev pub attributeAddress : List ℕ → ℕ → ℕ → ℕ
-attributeAddress r n k = register 5 r * 128 + (4 * n + k)
+attributeAddress r n k = base GraphicsI attributes r + (4 * n + k)
 
 -- The pattern byte of a name on line l, for a sprite at y. With size the name's low two bits count as 0.
 unfoldable pub spritePatternAddress : List ℕ → ℕ → ℕ → ℕ → ℕ
 spritePatternAddress r l y name =
-    register 6 r * 2048 + (8 * (name - cond (largeSprites r) (name % 4) 0) + scaled (magnified r) (rowOffset l y))
+    base GraphicsI spritePatterns r + (8 * (name - cond (largeSprites r) (name % 4) 0) + scaled (magnified r) (rowOffset l y))
 
 -- The first column, counted from 32 left of the screen: X, less 32 when the colour byte has hex 80.
 abbrev pub firstColumn : ℕ → ℕ → ℕ

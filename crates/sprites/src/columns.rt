@@ -8,16 +8,16 @@ use crate::shape::scaled;
 use crate::shape::side;
 use crate::sprite::Sprite;
 
-// The first column that is on the screen.
-pub fn first_column(s: Sprite) -> usize
+// The first of the sprite's columns that can be on the screen.
+pub fn first_visible(s: Sprite) -> usize
     ensures { λ n. ⌜ n ≡ max (s .first) 32 ⌝ }
 {
     let first = s.first as usize;
     if first < 32 { 32 } else { first }
 }
 
-// One past the last column that is on the screen.
-pub fn end_column(r: [u8; 8], s: Sprite) -> usize
+// One past the last that can be.
+pub fn end_visible(r: [u8; 8], s: Sprite) -> usize
     ensures { λ n. ⌜ n ≡ min (s .first + shape.side r) 288 ⌝ }
 {
     let end = s.first as usize + side(r);

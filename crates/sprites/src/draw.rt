@@ -5,14 +5,14 @@ ghost use lib.ListN.{length, getD, take, replicate};
 ghost use Rattle.chip.specs.Lists.{tabulate};
 ghost use Rattle.planes.specs.Pixel as pixel;
 ghost use Rattle.sprites.specs.Pixels.{visible, spriteColours, coincidence};
+use crate::paint::add_hits;
 use crate::paint::paint_sprite;
-use crate::paint::take_columns;
 use crate::scan::Scan;
 
 type Columns = [u8; 256];
 
-// No column is taken.
-fn no_columns() -> Columns
+// No column is hit.
+fn no_hits() -> Columns
     ensures { λ c. ⌜ c ≡ replicate 256 0 ⌝ }
 {
     [0; 256]
@@ -26,14 +26,15 @@ pub fn draw_sprites(line: &mut [u8], r: [u8; 8], scan: Scan) -> bool
     ensures { λ b. ⌜ b ≡ coincidence r (take (scan .drawn) (scan .sprites)) ⌝ }
 {
     let sprites = scan.sprites;
-    let mut taken = no_columns();
+    let mut hit = no_hits();
     let mut met = false;
     let mut k = scan.drawn;
     while 0 < k {
         k -= 1;
         let s = sprites[k];
-        met = take_columns(&mut taken, r, s) | met;
-        paint_sprite(line, r, s, s.colour);
+        let colour = s.colour;
+        met = add_hits(&mut hit, r, s) | met;
+        paint_sprite(line, r, s, colour);
     }
     met
 }

@@ -11,6 +11,7 @@ ghost use Rattle.sprites.specs.Scan as scan;
 ghost use Rattle.sprites.specs.Shape as shape;
 use crate::shape::covers;
 use crate::shape::is_large;
+use crate::shape::is_terminator;
 use crate::sprite::attribute_address;
 use crate::sprite::sprite_pattern_address;
 use chip::is_dirty;
@@ -41,7 +42,7 @@ fn sprite_dirty(r: [u8; 8], vram: &[u8], map: &[u8], l: u8, y: u8, n: usize) -> 
         | (is_dirty(map, name_at) | (is_dirty(map, colour_at) | pattern_dirty(r, map, at)))
 }
 
-// Of the scan of line l. It goes as the scan goes.
+// Of the scan of line l. It looks at the same sprites as the scan does.
 pub fn scan_dirty(r: [u8; 8], vram: &[u8], map: &[u8], l: u8) -> bool
     requires { ⌜ (masked r ≡ true) × (length (now vram) ≡ 16384) × (length (now map) ≡ 2048) ⌝ }
     ensures { λ b. ⌜ b ≡ anyDirty (now (map .entry)) (fetched (scan.scanOf r l) (now (vram .entry))) ⌝ }
@@ -54,10 +55,11 @@ pub fn scan_dirty(r: [u8; 8], vram: &[u8], map: &[u8], l: u8) -> bool
             return true;
         }
         let y = vram[at];
-        if y == 208 {
+        let covering = covers(r, l, y);
+        if is_terminator(y) {
             return false;
         }
-        if !covers(r, l, y) {
+        if !covering {
             n += 1;
             continue;
         }

@@ -10,6 +10,4 @@ mod sprite;
 pub use draw::draw_sprites;
 pub use due::scan_dirty;
 pub use scan::Ended;
-pub use scan::Scan;
 pub use scan::scan_of;
-pub use sprite::Sprite;

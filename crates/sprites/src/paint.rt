@@ -1,4 +1,4 @@
-// Painting a sprite over a line, and taking its columns.
+// Painting a sprite over a line, and the columns that it hits.
 ghost use mathlib.Core.Path.{_≡_};
 ghost use mathlib.Core.Bool.{cond, _&&_};
 ghost use lib.Dec.{eqb};
@@ -8,8 +8,8 @@ ghost use Rattle.chip.specs.Ranges.{anyBelow};
 ghost use Rattle.planes.specs.Pixel as pixel;
 ghost use Rattle.sprites.specs.Pixels.{visible, hits};
 use crate::columns::bit_at;
-use crate::columns::end_column;
-use crate::columns::first_column;
+use crate::columns::end_visible;
+use crate::columns::first_visible;
 use crate::sprite::Sprite;
 use planes::over;
 
@@ -25,8 +25,8 @@ pub fn paint_sprite(line: &mut [u8], r: [u8; 8], s: Sprite, colour: u8)
     requires { ⌜ length (now line) ≡ 256 ⌝ }
     ensures { λ _. ⌜ now (line .exit) ≡ tabulate 256 (λ x. pixel.over (cond (hits r s (visible x)) colour 0) (getD (now (line .entry)) x 0)) ⌝ }
 {
-    let end = end_column(r, s);
-    let mut c = first_column(s);
+    let end = end_visible(r, s);
+    let mut c = first_visible(s);
     while c < end {
         let x = c - 32;
         line[x] = over(front(bit_at(r, s, c), colour), line[x]);
@@ -34,21 +34,21 @@ pub fn paint_sprite(line: &mut [u8], r: [u8; 8], s: Sprite, colour: u8)
     }
 }
 
-// Takes (1) each column where the sprite has a set bit, and answers whether one of them was taken before. It leaves at
-// none, so that many columns can be looked at at once.
-pub fn take_columns(taken: &mut [u8], r: [u8; 8], s: Sprite) -> bool
-    requires { ⌜ length (now taken) ≡ 256 ⌝ }
-    ensures { λ b. ⌜ b ≡ anyBelow 256 (λ x. hits r s (visible x) && eqb (getD (now (taken .entry)) x 0) 1) ⌝ }
-    ensures { λ _. ⌜ now (taken .exit) ≡ tabulate 256 (λ x. pixel.over (cond (hits r s (visible x)) 1 0) (getD (now (taken .entry)) x 0)) ⌝ }
+// Adds the columns that the sprite hits, those where it has a set bit, to the ones hit before (1 for a hit column, 0 for any
+// other). Answers whether it hits one of these again. There is no early exit, so that many columns can be looked at at once.
+pub fn add_hits(hit: &mut [u8], r: [u8; 8], s: Sprite) -> bool
+    requires { ⌜ length (now hit) ≡ 256 ⌝ }
+    ensures { λ b. ⌜ b ≡ anyBelow 256 (λ x. hits r s (visible x) && eqb (getD (now (hit .entry)) x 0) 1) ⌝ }
+    ensures { λ _. ⌜ now (hit .exit) ≡ tabulate 256 (λ x. pixel.over (cond (hits r s (visible x)) 1 0) (getD (now (hit .entry)) x 0)) ⌝ }
 {
-    let end = end_column(r, s);
+    let end = end_visible(r, s);
     let mut met = false;
-    let mut c = first_column(s);
+    let mut c = first_visible(s);
     while c < end {
         let x = c - 32;
         let set = bit_at(r, s, c);
-        met = set & (taken[x] == 1) | met;
-        taken[x] = over(front(set, 1), taken[x]);
+        met = set & (hit[x] == 1) | met;
+        hit[x] = over(front(set, 1), hit[x]);
         c += 1;
     }
     met

@@ -7,6 +7,7 @@ ghost use Rattle.fetches.specs.Fetch.{value};
 ghost use Rattle.sprites.specs.Scan.{scanOf};
 ghost use Rattle.sprites.specs.Scanned.{Scanned};
 use crate::shape::covers;
+use crate::shape::is_terminator;
 use crate::sprite::Sprite;
 use crate::sprite::attribute_address;
 use crate::sprite::sprite_of;
@@ -44,15 +45,17 @@ pub fn scan_of(r: [u8; 8], vram: &[u8], l: u8) -> Scan
             break Ended::All;
         }
         let y = vram[attribute_address(r, n, 0)];
-        if y == 208 {
+        let covering = covers(r, l, y);
+        if is_terminator(y) {
             break Ended::Terminator;
         }
-        if !covers(r, l, y) {
+        if !covering {
             n += 1;
             continue;
         }
         if drawn == 4 {
-            break Ended::Fifth(n as u8);
+            let fifth = n as u8;
+            break Ended::Fifth(fifth);
         }
         sprites[drawn] = sprite_of(r, vram, l, y, n);
         drawn += 1;

@@ -1,6 +1,7 @@
 // How large sprites are, and which of them cover a line.
 ghost use mathlib.Core.Path.{_≡_};
 ghost use Prim.Native.Nat.{_<_};
+ghost use lib.Dec.{eqb};
 ghost use Rattle.chip.specs.Modes.{largeSprites, magnified};
 ghost use Rattle.sprites.specs.Shape as shape;
 use chip::bit;
@@ -41,6 +42,13 @@ pub fn row_offset(l: u8, y: u8) -> u8
     ensures { λ n. ⌜ n ≡ shape.rowOffset l y ⌝ }
 {
     std::num::wrapping_sub_u8(std::num::wrapping_sub_u8(l, y), 1)
+}
+
+// Whether a sprite at y ends the scan.
+pub fn is_terminator(y: u8) -> bool
+    ensures { λ b. ⌜ b ≡ eqb y 208 ⌝ }
+{
+    y == 208
 }
 
 // Whether a sprite at y covers line l.

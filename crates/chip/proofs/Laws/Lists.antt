@@ -4,7 +4,9 @@ use native.Mathlib.Nat.{not-suc-le-zero, le-of-suc-le-suc, ne-of-lt, zero-lt-suc
 use mathlib.Core.Path.{_≡_, refl, ap, ap₂, sym, _∙_}
 use mathlib.Core.List.{List, [], _∷_, _++_}
 use Rattle.chip.specs.Lists.{tabulate}
-use lib.ListN.{length, getD, take, set}
+use Rattle.chip.specs.State.{Bytes}
+use lib.Dec.{lit<}
+use lib.ListN.{length, getD, take, set, replicate}
 use lib.Seq.{take-all, set-at, ext-getD, getD-set-same, getD-set-other}
 use borrow.Author.Count.{below-more}
 use native.Mathlib.Omega.{arith}
@@ -67,3 +69,15 @@ filled-more {s} {f} {i} x h e before =
 -- two lists that are filled alike, whole
 pub filled-all : {s t : List ℕ} {f : ℕ → ℕ} → length s ≡ length t → Filled s f (length t) → Filled t f (length t) → s ≡ t
 filled-all {s} {t} same fs ft = ext-getD 0 s t same (λ i h. fs .front i (rw same at h) ∙ sym (ft .front i (rw same at h)))
+
+-- lists of bytes
+pub bytes-take : (n : ℕ) (l : List ℕ) → Bytes l → Bytes (take n l)
+bytes-take zero l b i = lit< tt
+bytes-take (suc n) [] b i = lit< tt
+bytes-take (suc n) (x ∷ l) b zero = b 0
+bytes-take (suc n) (x ∷ l) b (suc i) = bytes-take n l (λ j. b (suc j)) i
+
+pub bytes-zeros : (n : ℕ) → Bytes (replicate n 0)
+bytes-zeros zero i = lit< tt
+bytes-zeros (suc n) zero = lit< tt
+bytes-zeros (suc n) (suc i) = bytes-zeros n i

@@ -1,9 +1,10 @@
--- Well-formed states.
-use Prim.Native.Nat.{_≤_}
+-- Well-formed states, and states whose values fit their types.
+use Prim.Native.Nat.{_≤_, _<_}
 use mathlib.Core.Path.{_≡_, sym, _∙_}
 use mathlib.Core.Bool.{Bool, true, false, not}
+use lib.ListN.{length}
 use borrow.Author.Tests.{not-true, not-false, leb-true}
-use Rattle.chip.specs.State.{wellFormed, masked}
+use Rattle.chip.specs.State.{wellFormed, masked, byteOf, headTo, inTail, Change, registersTo, addressTo, bufferTo, waitingTo, statusTo, redrawTo, changed, Bytes, Fits}
 use Rattle.chip.specs.declared.state.Chip.{Chip}
 use Rattle.chip.proofs.Laws.Ranges.{and-left, and-right}
 
@@ -21,3 +22,43 @@ address-in c e = leb-true (c .address) 16383 (and-right (masked (c .registers)) 
 pub masked-in : (c : Chip) → wellFormed c ≡ true → masked (c .registers) ≡ true
 unfolding wellFormed
 masked-in c e = and-left (masked (c .registers)) _ e
+
+-- That a change's value fits its field's type.
+abbrev pub FitsType : Change → Type 0
+FitsType (registersTo l) = (length l ≡ 8) × Bytes l
+FitsType (addressTo a) = a < 65536
+FitsType (bufferTo b) = b < 256
+FitsType (waitingTo w) = byteOf w < 256
+FitsType (statusTo s) = s < 256
+FitsType (redrawTo m) = Unit {0}
+
+-- `Fits` as a chain, in the order of the state's fields
+abbrev Chain : Chip → Type 0
+Chain c =
+    FitsType (registersTo (c .registers))
+    × (FitsType (addressTo (c .address))
+    × (FitsType (bufferTo (c .buffer))
+    × (FitsType (waitingTo (c .waiting)) × (FitsType (statusTo (c .status)) × (FitsType (redrawTo (c .redraw)) × Unit {0})))))
+
+chain : {c : Chip} → Fits c → Chain c
+chain f = ((f .eight, f .registers), (f .address, (f .buffer, (f .waiting, (f .status, (tt, tt))))))
+
+unchained : {c : Chip} → Chain c → Fits c
+unchained p =
+    record {
+      eight = p .0 .0;
+      registers = p .0 .1;
+      address = p .1 .0;
+      buffer = p .1 .1 .0;
+      waiting = p .1 .1 .1 .0;
+      status = p .1 .1 .1 .1 .0;
+    }
+
+-- A change whose value fits its type keeps the others fitting.
+pub fits-changed : (k : Change) → FitsType k → {c : Chip} → Fits c → Fits (changed k c)
+fits-changed (registersTo l) h f = unchained (headTo h (chain f))
+fits-changed (addressTo a) h f = unchained (inTail (headTo h) (chain f))
+fits-changed (bufferTo b) h f = unchained (inTail (inTail (headTo h)) (chain f))
+fits-changed (waitingTo w) h f = unchained (inTail (inTail (inTail (headTo h))) (chain f))
+fits-changed (statusTo s) h f = unchained (inTail (inTail (inTail (inTail (headTo h)))) (chain f))
+fits-changed (redrawTo m) h f = unchained (inTail (inTail (inTail (inTail (inTail (headTo h))))) (chain f))

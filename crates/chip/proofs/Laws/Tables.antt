@@ -1,4 +1,4 @@
--- Every table lies within VRAM, in every mode: the masks see to it.
+-- Every table lies within VRAM, in every mode, because of the masks.
 use Prim.Native.Nat.{ℕ, _+_, _≤_, _<_}
 use native.Mathlib.Omega.{arith}
 use mathlib.Core.Path.{_≡_, subst}

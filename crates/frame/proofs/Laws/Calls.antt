@@ -16,7 +16,7 @@ use Rattle.chip.proofs.Laws.Refusals.{all-pass, is-accepted}
 use Rattle.frame.specs.Lines.{frameSize, notesSize}
 use Rattle.frame.specs.Calls.{drawRefusal}
 
--- What acceptance shows, as the code beneath asks it.
+-- What acceptance shows: what the code that draws requires.
 pub accepted-shows : (c : Chip) (vram map frame notes : List ℕ) → isAccepted (drawRefusal c vram map frame notes) ≡ true → (masked (c .registers) ≡ true) × (length vram ≡ 16384) × (length map ≡ 2048) × (length frame ≡ 49152) × (length notes ≡ 192)
 accepted-shows c vram map frame notes ok =
     let p = all-pass (vramTest vram ∷ sliceTest mapSize map ∷ sliceTest frameSize frame ∷ sliceTest notesSize notes ∷ stateTest c ∷ []) (refl, (refl, (refl, (refl, (refl, tt))))) ok in

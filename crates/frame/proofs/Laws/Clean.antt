@@ -28,7 +28,7 @@ module _ {A : Type 0} where
   chosen true x y f = refl
   chosen false x y f = f refl
 
--- With the redraw set nothing is asked.
+-- With the redraw mark set every line is due, so that any frame is clean.
 pub clean-while-redraw : (r vram map frame notes : List ℕ) → Clean true r vram map frame notes
 unfolding due
 clean-while-redraw r vram map frame notes = record { line = λ l h e. absurd (differ e); note = λ l h e. absurd (differ e) }

@@ -27,23 +27,23 @@ or-last a b h =
     omega arith
 
 -- a set bit stays set
-pub bit-kept : (k a b : ℕ) → bit k a ≡ true → bit k (bitOr a b) ≡ true
+bit-kept : (k a b : ℕ) → bit k a ≡ true → bit k (bitOr a b) ≡ true
 bit-kept k a b h =
     eq-eqb (bitOr a b / 2 ^ k % 2) 1 (ap (λ (n : ℕ). n % 2) (or-shr a b k) ∙ or-last (a / 2 ^ k) (b / 2 ^ k) (eqb-true (a / 2 ^ k % 2) 1 h))
 
-pub bit-set : (k x : ℕ) → bit k (2 ^ k) ≡ true → bit k (setBit k x) ≡ true
+bit-set : (k x : ℕ) → bit k (2 ^ k) ≡ true → bit k (setBit k x) ≡ true
 bit-set k x h = ap (bit k) (or-comm x (2 ^ k)) ∙ bit-kept k (2 ^ k) x h
 
 power-bit : (k : ℕ) → bit k (2 ^ k) ≡ true
 power-bit k = ap (λ (n : ℕ). eqb (n % 2) 1) (ap (λ (m : ℕ). m / 2 ^ k) (sym (one-mul (2 ^ k))) ∙ mul-div-cancel 1 (pow-pos k))
 
 module _ (map : List ℕ) (i : ℕ) where
-  pub dirty-self : i / 8 < length map → isDirty (setDirty map i) i ≡ true
+  dirty-self : i / 8 < length map → isDirty (setDirty map i) i ≡ true
   dirty-self h =
       ap (bit (i % 8)) (getD-set-same map (i / 8) (setBit (i % 8) (getD map (i / 8) 0)) 0 h) ∙ bit-set (i % 8) (getD map (i / 8) 0) (power-bit (i % 8))
 
   -- the byte of j's bit, whether i's bit is in it or not
-  pub dirty-kept : (j : ℕ) → i / 8 < length map → isDirty map j ≡ true → isDirty (setDirty map i) j ≡ true
+  dirty-kept : (j : ℕ) → i / 8 < length map → isDirty map j ≡ true → isDirty (setDirty map i) j ≡ true
   dirty-kept j h m = by (eqb (j / 8) (i / 8)) refl
     where
       by : (b : Bool) → eqb (j / 8) (i / 8) ≡ b → isDirty (setDirty map i) j ≡ true

@@ -20,13 +20,9 @@ module _ (f : ℕ → List ℕ) where
   length-end (suc n) h =
       length-append (endToEnd n f) (f n) ∙ ap₂ _+_ (length-end n (λ k below. h k (le-step below))) (h n (lt-suc-self n)) ∙ sym (mul-suc 256 n)
 
-  pub end-more : (n : ℕ) → endToEnd (n + 1) f ≡ endToEnd n f ++ f n
+  end-more : (n : ℕ) → endToEnd (n + 1) f ≡ endToEnd n f ++ f n
   unfolding endToEnd
   end-more n = rw add-one refl
-
-  pub end-none : endToEnd 0 f ≡ []
-  unfolding endToEnd
-  end-none = refl
 
 -- the same lines, end to end
 pub end-same : (n : ℕ) (f g : ℕ → List ℕ) → ((k : ℕ) → k < n → f k ≡ g k) → endToEnd n f ≡ endToEnd n g

@@ -29,7 +29,7 @@ module _ (line : ℕ → List ℕ) (note : ℕ → ℕ) (is : ℕ → Bool) (wid
     pub prefix-long : length (endToEnd l line) ≡ 256 * l
     prefix-long = length-end line l (λ k below. wide k (omega arith))
 
-    pub redrawn-more : (part : List ℕ) (n : ℕ) (b : Bool) → part ≡ line l → n ≡ note l → b ≡ is l → Redrawn line note is frame₀ notes₀ (take (256 * l) frame ++ (part ++ drop 256 (drop (256 * l) frame))) (set notes l n) (count + boolByte b) (l + 1)
+    redrawn-more : (part : List ℕ) (n : ℕ) (b : Bool) → part ≡ line l → n ≡ note l → b ≡ is l → Redrawn line note is frame₀ notes₀ (take (256 * l) frame ++ (part ++ drop 256 (drop (256 * l) frame))) (set notes l n) (count + boolByte b) (l + 1)
     redrawn-more part n b ep en eb =
         record {
           lines = line-stored line frame₀ frame l prefix-long (g .lines) part ep;
@@ -40,7 +40,7 @@ module _ (line : ℕ → List ℕ) (note : ℕ → ℕ) (is : ℕ → Bool) (wid
         }
 
   -- the frame keeps its length
-  pub redrawn-long : {frame₀ notes₀ frame notes : List ℕ} {count l : ℕ} → l ≤ 192 → length frame₀ ≡ 49152 → Redrawn line note is frame₀ notes₀ frame notes count l → length frame ≡ 49152
+  redrawn-long : {frame₀ notes₀ frame notes : List ℕ} {count l : ℕ} → l ≤ 192 → length frame₀ ≡ 49152 → Redrawn line note is frame₀ notes₀ frame notes count l → length frame ≡ 49152
   redrawn-long {frame₀} {notes₀} {frame} {notes} {count} {l} h e g =
       let front = length-end line l (λ k below. wide k (omega arith)) in
       let back = length-drop (256 * l) frame₀ in
@@ -50,8 +50,8 @@ module _ (line : ℕ → List ℕ) (note : ℕ → ℕ) (is : ℕ → Bool) (wid
 
   -- One line more, lent as a part of the frame of width w.
   module _ {frame₀ notes₀ frame notes : List ℕ} {count l : ℕ} (h : l < 192) (e : length frame₀ ≡ 49152) (g : Redrawn line note is frame₀ notes₀ frame notes count l) where
-    pub redrawn-turn : {part : List ℕ} {n : ℕ} {b : Bool} {w : ℕ} → w ≡ 256 → part ≡ line l → n ≡ note l → b ≡ is l → (length (take (256 * l) frame ++ (part ++ drop w (drop (256 * l) frame))) ≡ 49152) × Redrawn line note is frame₀ notes₀ (take (256 * l) frame ++ (part ++ drop w (drop (256 * l) frame))) (set notes l n) (count + boolByte b) (l + 1)
-    redrawn-turn {part} {n} {b} ew ep en eb =
+    pub redrawn-line : {part : List ℕ} {n : ℕ} {b : Bool} {w : ℕ} → w ≡ 256 → part ≡ line l → n ≡ note l → b ≡ is l → (length (take (256 * l) frame ++ (part ++ drop w (drop (256 * l) frame))) ≡ 49152) × Redrawn line note is frame₀ notes₀ (take (256 * l) frame ++ (part ++ drop w (drop (256 * l) frame))) (set notes l n) (count + boolByte b) (l + 1)
+    redrawn-line {part} {n} {b} ew ep en eb =
         let more = redrawn-more h g part n b ep en eb in
         rw ew (redrawn-long (omega arith) e more, more)
 

@@ -1,4 +1,4 @@
--- Where a line's names stand.
+-- Where a line's names, patterns and colours stand, and how wide its cells are.
 use Prim.Native.Nat.{ℕ, _+_, _*_, _/_, _≤_, _<_}
 use native.Mathlib.Nat.{not-suc-le-zero}
 use native.Mathlib.Omega.{arith}

@@ -23,17 +23,17 @@ use Rattle.planes.specs.declared.cell.Cell.{Cell}
 module _ (m : Mode) (cells : List Cell) where
   -- Pixel k of cell i stands at column margin + width·i + k: there the quotient of x - margin by the width is i, and the
   -- remainder k.
-  pub in-cell : (i k : ℕ) → i < cellsIn m → k < cellWidth m → planeColour m cells (margin m + (i * cellWidth m + k)) ≡ pick (getD cells i noCell) k
+  in-cell : (i k : ℕ) → i < cellsIn m → k < cellWidth m → planeColour m cells (margin m + (i * cellWidth m + k)) ≡ pick (getD cells i noCell) k
   unfolding planeColour
   in-cell i k hi hk =
       let within : margin m + (i * cellWidth m + k) < margin m + cellsIn m * cellWidth m = omega (arith, digits-lt {c = cellWidth m} hi hk) in
       rw (le-leb _ _ (le-add-right (margin m) (i * cellWidth m + k)), lt-ltb _ _ within, add-sub-cancel-left, digits-div i hk, digits-mod i hk)
 
-  pub left-of-cells : (x : ℕ) → x < margin m → planeColour m cells x ≡ 0
+  left-of-cells : (x : ℕ) → x < margin m → planeColour m cells x ≡ 0
   unfolding planeColour
   left-of-cells x h = rw (lt-leb _ _ h)
 
-  pub right-of-cells : (x : ℕ) → margin m + cellsIn m * cellWidth m ≤ x → planeColour m cells x ≡ 0
+  right-of-cells : (x : ℕ) → margin m + cellsIn m * cellWidth m ≤ x → planeColour m cells x ≡ 0
   unfolding planeColour
   right-of-cells x h = rw (le-ltb _ _ h, and-false)
 

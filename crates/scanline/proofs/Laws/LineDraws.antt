@@ -36,7 +36,7 @@ one-line-more s f n = ap (statusThrough s) (one-more n f) ∙ one-note-more s (t
 abbrev pub noted : ℕ → Chip → List ℕ → Chip
 noted n c vram = withStatus (statusThrough (c .status) (tabulate n (noteAt (c .registers) vram))) c
 
--- well-formedness asks nothing of status
+-- well-formedness does not depend on status
 still-formed : (s : ℕ) (c : Chip) → wellFormed c ≡ true → wellFormed (withStatus s c) ≡ true
 unfolding wellFormed
 still-formed s c ok = ok
@@ -44,14 +44,14 @@ still-formed s c ok = ok
 module _ (vram : List ℕ) (full : length vram ≡ 16384) where
   -- The draw of one line.
   module _ (c : Chip) (ok : wellFormed c ≡ true) (slice : List ℕ) (wide : length slice ≡ 256) (l : ℕ) (h : l < 192) where
-    pub line-accepted : drawLineRefusal c vram slice l ≡ Accepted
+    line-accepted : drawLineRefusal c vram slice l ≡ Accepted
     line-accepted =
         all-accepted (vramTest vram ∷ sliceTest 256 slice ∷ stateTest c ∷ lineTest l ∷ []) (eq-eqb _ _ full, (eq-eqb _ _ wide, (ok, (le-leb l 191 (omega arith), tt))))
 
-    pub line-drawn : drawLineLine c vram slice l ≡ colours (c .registers) vram l
+    line-drawn : drawLineLine c vram slice l ≡ colours (c .registers) vram l
     line-drawn = the-new line-accepted (colours (c .registers) vram l) slice
 
-    pub state-drawn : drawLine c vram slice l .chip ≡ withStatus (statusAfter (c .status) (noteAt (c .registers) vram l)) c
+    state-drawn : drawLine c vram slice l .chip ≡ withStatus (statusAfter (c .status) (noteAt (c .registers) vram l)) c
     state-drawn = the-new line-accepted (withStatus (statusAfter (c .status) (noteAt (c .registers) vram l)) c) c
 
   -- The draws of lines 0 to n - 1.

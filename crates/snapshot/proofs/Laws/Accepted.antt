@@ -2,14 +2,14 @@
 use Prim.Native.Nat.{ℕ, _+_, _-_, _/_, _%_}
 use native.Mathlib.Omega.{arith}
 use mathlib.Core.Path.{_≡_, sym, ap, ap₂, _∙_}
-use mathlib.Core.Bool.{Bool, true, _&&_, _||_}
+use mathlib.Core.Bool.{Bool, true, _&&_}
 use mathlib.Core.List.{List, [], _∷_, _++_, append-assoc}
 use lib.Dec.{eqb}
 use lib.ListN.{getD, take, drop, length-drop, take-append-drop}
 use lib.Seq.{take-all, take-add, getD-drop}
 use borrow.Author.Tests.{eqb-true}
-use Rattle.chip.specs.State.{Bytes, wellFormed}
-use Rattle.chip.specs.Layout.{encoded, decoded, holdsState}
+use Rattle.chip.specs.State.{Bytes}
+use Rattle.chip.specs.Layout.{encoded, decoded}
 use Rattle.chip.specs.declared.state.Chip.{Chip}
 use Rattle.chip.specs.Lists.{tabulate}
 use Rattle.chip.proofs.Laws.Lists.{take-tabulate, listed}
@@ -28,10 +28,6 @@ all-four a b c d e =
     let ab = and-left (a && b) c abc in
     (and-left a b ab, and-right a b ab, and-right (a && b) c abc, and-right (a && b && c) d e)
 
--- bytes that hold a state hold a well-formed one
-pub state-of : (b : List ℕ) → holdsState b ≡ true → wellFormed (decoded b true) ≡ true
-state-of b h = and-right (eqb (getD b 11 0) 1 || eqb (getD b 11 0) 0 && eqb (getD b 12 0) 0) (wellFormed (decoded b true)) h
-
 module _ (file : List ℕ) (bytes : Bytes file) {old : List ℕ} (r : Readable old file) where
   abbrev at : ℕ → ℕ
   at k = getD file k 0
@@ -40,14 +36,11 @@ module _ (file : List ℕ) (bytes : Bytes file) {old : List ℕ} (r : Readable o
   abbrev held : Chip
   held = decoded (stateBytes file) true
 
-  pub held-well-formed : wellFormed held ≡ true
-  held-well-formed = state-of (stateBytes file) (r .holds)
-
   state-kept : encoded held ≡ stateBytes file
   unfolding stateBytes
   state-kept =
       let long = length-state file (r .whole) in
-      encoded-decoded (stateBytes file) (bytes-part (trailerAt file - 14) 14 file bytes) (r .holds) true (omega arith)
+      encoded-decoded (stateBytes file) (bytes-part (trailerAt file - 14) 14 file bytes) true (r .holds) (omega arith)
       ∙ take-all 14 (stateBytes file) (omega arith)
 
   -- the signature and the distances are the trailer's first six bytes

@@ -11,6 +11,7 @@ use Rattle.chip.specs.Layout.{encoded}
 use Rattle.chip.specs.declared.state.Chip.{Chip}
 use Rattle.chip.specs.declared.state.Waiting.{Waiting}
 use Rattle.chip.specs.declared.state.Waiting.the-variants.{Nothing, First}
+use Rattle.chip.proofs.Laws.Lists.{bytes-take}
 use Rattle.snapshot.specs.Format.{trailerOf, snapshotOf}
 
 -- that each number of a list is a byte
@@ -28,12 +29,6 @@ both : (p q : List ℕ) → Bytes p → Bytes q → Bytes (p ++ q)
 both [] q bp bq i = bq i
 both (x ∷ p) q bp bq zero = bp 0
 both (x ∷ p) q bp bq (suc i) = both p q (λ j. bp (suc j)) bq i
-
-bytes-take : (n : ℕ) (l : List ℕ) → Bytes l → Bytes (take n l)
-bytes-take zero l b i = lit< tt
-bytes-take (suc n) [] b i = lit< tt
-bytes-take (suc n) (x ∷ l) b zero = b 0
-bytes-take (suc n) (x ∷ l) b (suc i) = bytes-take n l (λ j. b (suc j)) i
 
 bytes-drop : (n : ℕ) (l : List ℕ) → Bytes l → Bytes (drop n l)
 bytes-drop n l b i = subst⁻¹ (λ (x : ℕ). x < 256) (getD-drop n l i 0) (b (n + i))

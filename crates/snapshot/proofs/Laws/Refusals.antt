@@ -2,17 +2,17 @@
 use Prim.Native.Nat.{ℕ}
 use mathlib.Core.Path.{_≡_, refl, ap}
 use mathlib.Core.Bool.{true}
-use mathlib.Core.List.{List, [], _∷_}
+use mathlib.Core.List.{List}
 use lib.ListN.{length}
 use borrow.Author.Tests.{eqb-true, eq-eqb}
 use Rattle.chip.specs.State.{wellFormed}
-use Rattle.chip.specs.Layout.{holdsState}
-use Rattle.chip.specs.Refusals.{isAccepted, vramTest, stateTest}
+use Rattle.chip.specs.Layout.{decoded}
+use Rattle.chip.specs.Refusals.{isAccepted}
 use Rattle.chip.specs.declared.state.Chip.{Chip}
 use Rattle.chip.specs.declared.refusal.Refusal.the-variants.{Accepted}
 use Rattle.chip.proofs.Laws.Refusals.{all-pass, all-accepted}
-use Rattle.snapshot.specs.Tests.{stateBytes, pointsBack, sumRight, sizeTest}
-use Rattle.snapshot.specs.Calls.{writeRefusal, readTests, readRefusal}
+use Rattle.snapshot.specs.Tests.{stateBytes, pointsBack, sumRight}
+use Rattle.snapshot.specs.Calls.{writeTests, writeRefusal, readTests, readRefusal}
 
 -- What the tests of reading show of VRAM and of the file.
 pub record Readable (vram s : List ℕ) : Type 0 where
@@ -20,10 +20,10 @@ pub record Readable (vram s : List ℕ) : Type 0 where
   pub whole : length s ≡ 16406
   pub points : pointsBack s ≡ true
   pub total : sumRight s ≡ true
-  pub holds : holdsState (stateBytes s) ≡ true
+  pub holds : wellFormed (decoded (stateBytes s) true) ≡ true
 
 pub write-accepted : (c : Chip) (vram out : List ℕ) → length vram ≡ 16384 → length out ≡ 16406 → wellFormed c ≡ true → writeRefusal c vram out ≡ Accepted
-write-accepted c vram out hv ho ok = all-accepted (vramTest vram ∷ sizeTest out ∷ stateTest c ∷ []) (eq-eqb _ _ hv, (eq-eqb _ _ ho, (ok, tt)))
+write-accepted c vram out hv ho ok = all-accepted (writeTests c vram out) (eq-eqb _ _ hv, (ok, (eq-eqb _ _ ho, tt)))
 
 pub read-accepted : (vram s : List ℕ) → Readable vram s → readRefusal vram s ≡ Accepted
 read-accepted vram s r = all-accepted (readTests vram s) (eq-eqb _ _ (r .room), (eq-eqb _ _ (r .whole), (r .points, (r .total, (r .holds, tt)))))

@@ -8,9 +8,9 @@ use lib.ListN.{length, getD, take, length-append}
 use lib.Seq.{take-at, drop-at, getD-append-add}
 use borrow.Author.Tests.{eq-eqb}
 use Rattle.chip.specs.State.{wellFormed}
-use Rattle.chip.specs.Layout.{encoded, holdsState}
+use Rattle.chip.specs.Layout.{encoded, decoded}
 use Rattle.chip.specs.declared.state.Chip.{Chip}
-use Rattle.chip.proofs.Laws.Layout.{length-encoded, encoded-holds}
+use Rattle.chip.proofs.Laws.Layout.{length-encoded, well-formed-encoded}
 use Rattle.snapshot.specs.Format.{lowFirst, pointers, checksum, summed, trailerOf, snapshotOf}
 use Rattle.snapshot.specs.Tests.{pairAt, stateBytes, vramBytes, pointsBack, sumRight}
 use Rattle.snapshot.proofs.Laws.Parts.{regroup, before-trailer, before-sum}
@@ -67,5 +67,5 @@ module _ (c : Chip) (eight : length (c .registers) ≡ 8) (vram : List ℕ) (lon
         whole = length-snapshot;
         points = points;
         total = sums;
-        holds = ap holdsState state-back ∙ encoded-holds c eight ∙ ok;
+        holds = ap (λ (b : List ℕ). wellFormed (decoded b true)) state-back ∙ well-formed-encoded c eight true ∙ ok;
       }

@@ -1,19 +1,20 @@
--- Every address of a sprite is below 16,384.
+-- Every address of a sprite is below 16,384: it is a place within its table.
 use Prim.Native.Nat.{ℕ, _+_, _-_, _*_, _%_, _≤_, _<_}
 use native.Mathlib.Omega.{arith}
 use mathlib.Core.Path.{_≡_}
 use mathlib.Core.Bool.{Bool, true, false, cond}
 use mathlib.Core.List.{List}
 use borrow.Author.Tests.{ltb-true}
-use lib.Dec.{lit<}
 use Rattle.chip.specs.Modes.{largeSprites, magnified}
 use Rattle.chip.specs.State.{vramSize, masked}
-use Rattle.chip.proofs.Laws.Tables.{at-most-mask}
+use Rattle.chip.specs.Tables.{attributes, spritePatterns}
+use Rattle.chip.specs.declared.mode.Mode.the-variants.{GraphicsI}
+use Rattle.chip.proofs.Laws.Tables.{inside}
 use Rattle.sprites.specs.Shape.{scaled, rowOffset, covers}
 use Rattle.sprites.specs.Scan.{attributeAddress, spritePatternAddress}
 
 pub attribute-inside : (r : List ℕ) → masked r ≡ true → (n k : ℕ) → n < 32 → k < 4 → attributeAddress r n k < vramSize
-attribute-inside r ok n k hn hk = omega (arith, at-most-mask r ok 5 (lit< tt))
+attribute-inside r ok n k hn hk = inside GraphicsI attributes r ok _ (omega arith)
 
 -- a row of a sprite that covers the line is one of its 8 or 16
 pub row-small : (g m : Bool) (o : ℕ) → o < cond g 16 8 * cond m 2 1 → scaled m o < cond g 16 8
@@ -30,12 +31,9 @@ name-small false name h = omega arith
 pub pattern-inside : (r : List ℕ) → masked r ≡ true → (l y name : ℕ) → covers r l y ≡ true → name < 256 → spritePatternAddress r l y name + cond (largeSprites r) 16 0 < vramSize
 unfolding spritePatternAddress
 pattern-inside r ok l y name cov hn =
-    omega (
-      arith,
-      at-most-mask r ok 6 (lit< tt),
-      name-small (largeSprites r) name hn,
-      row-small (largeSprites r) (magnified r) (rowOffset l y) (ltb-true _ _ cov),
-    )
+    let row = row-small (largeSprites r) (magnified r) (rowOffset l y) (ltb-true _ _ cov) in
+    let place : 8 * (name - cond (largeSprites r) (name % 4) 0) + scaled (magnified r) (rowOffset l y) + cond (largeSprites r) 16 0 < 2048 = omega (arith, name-small (largeSprites r) name hn) in
+    omega (arith, inside GraphicsI spritePatterns r ok _ place)
 
 pub scaled-le : (m : Bool) (d : ℕ) → scaled m d ≤ d
 scaled-le true d = omega arith

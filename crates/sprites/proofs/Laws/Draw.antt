@@ -16,47 +16,47 @@ use Rattle.planes.specs.Pixel.{over, firstNonZero}
 use Rattle.sprites.specs.Pixels.{visible, hits, spriteColours, anyHits, meet, coincidence}
 use Rattle.sprites.specs.declared.sprite.Sprite.{Sprite}
 
--- What stands after the sprites of a list are drawn over a line: the line, the taken columns, and whether two met.
-pub record Over (r : List ℕ) (l : List Sprite) (old line taken : List ℕ) (met : Bool) : Type 0 where
+-- What stands after the sprites of a list are drawn over a line: the line, the columns that they hit, and whether two met.
+pub record Over (r : List ℕ) (l : List Sprite) (old line hit : List ℕ) (met : Bool) : Type 0 where
   pub shown : line ≡ tabulate 256 (λ x. firstNonZero (spriteColours r l (visible x)) (getD old x 0))
-  pub held : taken ≡ tabulate 256 (λ x. boolByte (anyHits r l (visible x)))
+  pub columns : hit ≡ tabulate 256 (λ x. boolByte (anyHits r l (visible x)))
   pub found : met ≡ coincidence r l
 
-pub over-none : {r old taken : List ℕ} → length old ≡ 256 → taken ≡ replicate 256 0 → Over r [] old old taken false
+pub over-none : {r old hit : List ℕ} → length old ≡ 256 → hit ≡ replicate 256 0 → Over r [] old old hit false
 unfolding coincidence
 over-none {r} {old} e t =
     record {
       shown = tabulated e (λ i h. refl);
-      held = t ∙ tabulated (length-replicate {A = ℕ} 256 0) (λ i h. getD-replicate 256 i 0 0 h);
+      columns = t ∙ tabulated (length-replicate {A = ℕ} 256 0) (λ i h. getD-replicate 256 i 0 0 h);
       found = sym (none-holds 256 (λ x. false) (λ k h. refl));
     }
 
--- one taken column more
-taken-or : (a b : Bool) → over (cond a 1 0) (boolByte b) ≡ boolByte (a || b)
-taken-or true b = refl
-taken-or false b = refl
+-- one hit column more
+hit-or : (a b : Bool) → over (cond a 1 0) (boolByte b) ≡ boolByte (a || b)
+hit-or true b = refl
+hit-or false b = refl
 
-is-taken : (b : Bool) → eqb (boolByte b) 1 ≡ b
-is-taken true = refl
-is-taken false = refl
+is-hit : (b : Bool) → eqb (boolByte b) 1 ≡ b
+is-hit true = refl
+is-hit false = refl
 
-module _ {r : List ℕ} {l : List Sprite} {old line taken : List ℕ} {met : Bool} (o : Over r l old line taken met) where
+module _ {r : List ℕ} {l : List Sprite} {old line hit : List ℕ} {met : Bool} (o : Over r l old line hit met) where
   pub line-long : length line ≡ 256
   line-long = ap length (o .shown) ∙ length-tabulate 256 _
 
-  pub taken-long : length taken ≡ 256
-  taken-long = ap length (o .held) ∙ length-tabulate 256 _
+  pub hit-long : length hit ≡ 256
+  hit-long = ap length (o .columns) ∙ length-tabulate 256 _
 
   -- the next lower sprite
-  pub over-one : (s : Sprite) {new now : List ℕ} {m : Bool} → new ≡ tabulate 256 (λ x. over (cond (hits r s (visible x)) (s .colour) 0) (getD line x 0)) → now ≡ tabulate 256 (λ x. over (cond (hits r s (visible x)) 1 0) (getD taken x 0)) → m ≡ anyBelow 256 (λ x. hits r s (visible x) && eqb (getD taken x 0) 1) → Over r (s ∷ l) old new now (m || met)
+  pub over-one : (s : Sprite) {new now : List ℕ} {m : Bool} → new ≡ tabulate 256 (λ x. over (cond (hits r s (visible x)) (s .colour) 0) (getD line x 0)) → now ≡ tabulate 256 (λ x. over (cond (hits r s (visible x)) 1 0) (getD hit x 0)) → m ≡ anyBelow 256 (λ x. hits r s (visible x) && eqb (getD hit x 0) 1) → Over r (s ∷ l) old new now (m || met)
   unfolding coincidence
   over-one s {new} {now} {m} en et em =
       record {
         shown = en ∙ tabulate-same 256 (λ x h. ap (over (cond (hits r s (visible x)) (s .colour) 0)) (line-at x h));
-        held = et ∙ tabulate-same 256 (λ x h. ap (over (cond (hits r s (visible x)) 1 0)) (taken-at x h) ∙ taken-or (hits r s (visible x)) (anyHits r l (visible x)));
+        columns = et ∙ tabulate-same 256 (λ x h. ap (over (cond (hits r s (visible x)) 1 0)) (hit-at x h) ∙ hit-or (hits r s (visible x)) (anyHits r l (visible x)));
         found =
             ap₂ _||_
-            (em ∙ any-same 256 _ _ (λ x h. ap (λ (n : ℕ). hits r s (visible x) && eqb n 1) (taken-at x h) ∙ ap (λ (b : Bool). hits r s (visible x) && b) (is-taken (anyHits r l (visible x)))))
+            (em ∙ any-same 256 _ _ (λ x h. ap (λ (n : ℕ). hits r s (visible x) && eqb n 1) (hit-at x h) ∙ ap (λ (b : Bool). hits r s (visible x) && b) (is-hit (anyHits r l (visible x)))))
             (o .found)
             ∙ sym (any-or 256 (λ x. hits r s (visible x) && anyHits r l (visible x)) (λ x. meet r l (visible x)));
       }
@@ -64,8 +64,8 @@ module _ {r : List ℕ} {l : List Sprite} {old line taken : List ℕ} {met : Boo
       line-at : (x : ℕ) → x < 256 → getD line x 0 ≡ firstNonZero (spriteColours r l (visible x)) (getD old x 0)
       line-at x h = ap (λ (t : List ℕ). getD t x 0) (o .shown) ∙ getD-tabulate 256 _ x h
 
-      taken-at : (x : ℕ) → x < 256 → getD taken x 0 ≡ boolByte (anyHits r l (visible x))
-      taken-at x h = ap (λ (t : List ℕ). getD t x 0) (o .held) ∙ getD-tabulate 256 _ x h
+      hit-at : (x : ℕ) → x < 256 → getD hit x 0 ≡ boolByte (anyHits r l (visible x))
+      hit-at x h = ap (λ (t : List ℕ). getD t x 0) (o .columns) ∙ getD-tabulate 256 _ x h
 
 -- the sprites from k - 1 on
 pub one-lower : (sprites : List Sprite) (n k : ℕ) (d : Sprite) → 0 < k → k ≤ n → n ≤ length sprites → drop (k - 1) (take n sprites) ≡ getD sprites (k - 1) d ∷ drop k (take n sprites)

@@ -1,8 +1,6 @@
--- The fifth sprite's number is one of 0 to 31.
+-- A scan's end in a note, the fifth sprite's number or 32 for none, is at most 32: so it fits the note's low six bits.
 use Prim.Native.Nat.{ℕ, zero, suc, _+_, _≤_}
-use native.Mathlib.Nat.{add-suc, suc-add}
 use native.Mathlib.Omega.{arith}
-use mathlib.Core.Path.{_≡_, ap, sym, subst, _∙_}
 use mathlib.Core.Bool.{Bool, true, false, cond}
 use mathlib.Core.List.{List, []}
 use lib.Dec.{eqb}
@@ -10,14 +8,14 @@ use lib.ListN.{getD}
 use Rattle.fetches.specs.Fetch.{Fetch, answer, value, followed}
 use Rattle.fetches.proofs.Laws.{value-followed}
 use Rattle.sprites.specs.Shape.{covers}
-use Rattle.sprites.specs.Scan.{attributeAddress, spriteOf, Found, found, seen, scanFrom, scanOf, fifthOf}
+use Rattle.sprites.specs.Scan.{attributeAddress, spriteOf, Found, found, scanFrom, scanOf, fifthOf}
 use Rattle.sprites.specs.declared.scan.Ended.the-variants.{Terminator, Fifth}
 
 module _ (r : List ℕ) (l : ℕ) (m : List ℕ) where
   abbrev Small : Fetch Found → Type 0
   Small d = fifthOf (value d m .ended) ≤ 32
 
-  -- whichever way sprite n goes
+  -- in each case of sprite n
   ways : (a b c : Bool) (n k y : ℕ) (next : ℕ → Fetch Found) → n ≤ 32 → ((j : ℕ) → Small (next j)) → Small (cond a (answer (record { sprites = []; ended = Terminator })) (cond b (cond c (answer (record { sprites = []; ended = Fifth n })) (followed (spriteOf r l n y) λ s. followed (next (suc k)) λ f. answer (found s f))) (next k)))
   unfolding value
   ways true b c n k y next h s = omega arith

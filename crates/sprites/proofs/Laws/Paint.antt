@@ -48,7 +48,7 @@ swept-all {new} {old} {f} {c} keeps s = tabulated (s .long) (λ x h. by x h (dec
         s .rest x h above ∙ sym (keeps x h above (getD old x 0))
 
 -- a test that fails at every visible column before c, and at c
-pub none-yet : (p : ℕ → ℕ → Bool) (c : ℕ) → 32 ≤ c → ((x : ℕ) → visible x < c → p (visible x) x ≡ false) → p c (c - 32) ≡ false → (x : ℕ) → visible x < c + 1 → p (visible x) x ≡ false
+none-yet : (p : ℕ → ℕ → Bool) (c : ℕ) → 32 ≤ c → ((x : ℕ) → visible x < c → p (visible x) x ≡ false) → p c (c - 32) ≡ false → (x : ℕ) → visible x < c + 1 → p (visible x) x ≡ false
 none-yet p c low before here x below = by (decLt (visible x) c)
   where
     by : Dec (visible x < c) → p (visible x) x ≡ false

@@ -6,6 +6,7 @@ use mathlib.Core.Path.{_≡_, refl, sym, ap, _∙_}
 use mathlib.Core.Bool.{true, false}
 use mathlib.Core.List.{List, [], _∷_, _++_, append-nil, append-assoc}
 use borrow.Author.Tests.{eq-eqb, ne-eqb}
+use lib.Dec.{eqb}
 use lib.ListN.{length, getD, take, set, length-set}
 use lib.Seq.{take-suc-set}
 use Rattle.fetches.specs.Fetch.{answer, value, followed}
@@ -35,23 +36,23 @@ module _ (r : List ℕ) (l : ℕ) (vram : List ℕ) where
       let e : 32 - n ≡ suc (32 - (n + 1)) = omega arith in
       rw (e, add-one)
 
-  pub at-terminator : (n k : ℕ) → n < 32 → y n ≡ 208 → rest n k ≡ record { sprites = []; ended = Terminator }
+  pub at-terminator : (n k : ℕ) → n < 32 → eqb (y n) 208 ≡ true → rest n k ≡ record { sprites = []; ended = Terminator }
   unfolding value
-  at-terminator n k h e = one n k h ∙ rw (eq-eqb _ _ e)
+  at-terminator n k h e = one n k h ∙ rw e
 
-  module _ (n k : ℕ) (h : n < 32) (more : y n ≡ 208 → ⊥) where
+  module _ (n k : ℕ) (h : n < 32) (more : eqb (y n) 208 ≡ false) where
     pub not-covering : covers r l (y n) ≡ false → rest n k ≡ rest (n + 1) k
-    not-covering c = one n k h ∙ rw (ne-eqb _ _ more, c)
+    not-covering c = one n k h ∙ rw (more, c)
 
     pub at-fifth : covers r l (y n) ≡ true → k ≡ 4 → rest n k ≡ record { sprites = []; ended = Fifth n }
     unfolding value
-    at-fifth c e = one n k h ∙ rw (ne-eqb _ _ more, c, eq-eqb _ _ e)
+    at-fifth c e = one n k h ∙ rw (more, c, eq-eqb _ _ e)
 
     pub drawn : covers r l (y n) ≡ true → (k ≡ 4 → ⊥) → rest n k ≡ found (value (spriteOf r l n (y n)) vram) (rest (n + 1) (k + 1))
     unfolding value
     drawn c e =
         one n k h
-        ∙ rw (ne-eqb _ _ more, c, ne-eqb _ _ e, add-one k)
+        ∙ rw (more, c, ne-eqb _ _ e, add-one k)
         (value-followed (spriteOf r l n (y n)) (λ s. followed (scanFrom r l (32 - (n + 1)) (n + 1) (suc k)) λ f. answer (found s f)) vram
         ∙ value-followed (scanFrom r l (32 - (n + 1)) (n + 1) (suc k)) (λ f. answer (found (value (spriteOf r l n (y n)) vram) f)) vram)
 
@@ -59,7 +60,7 @@ module _ (r : List ℕ) (l : ℕ) (vram : List ℕ) where
 abbrev pub after : List Sprite → Found → Found
 after s f = record { sprites = s ++ f .sprites; ended = f .ended }
 
-pub after-one : (a : List Sprite) (s : Sprite) (f : Found) → after (a ++ (s ∷ [])) f ≡ after a (found s f)
+after-one : (a : List Sprite) (s : Sprite) (f : Found) → after (a ++ (s ∷ [])) f ≡ after a (found s f)
 after-one a s f = λ i. record { sprites = append-assoc a (s ∷ []) (f .sprites) i; ended = f .ended }
 
 -- one sprite more in the array

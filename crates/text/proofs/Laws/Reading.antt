@@ -17,7 +17,6 @@ use Rattle.snapshot.specs.Tests.{stateBytes, vramBytes, sizeTest, trailerTest, 
 use Rattle.snapshot.specs.Calls.{readRefusal, readSnapshot, readVram}
 use Rattle.snapshot.proofs.Laws.Refusals.{accepted-readable}
 use Rattle.snapshot.proofs.Laws.Parts.{length-vram}
-use Rattle.snapshot.proofs.Laws.Accepted.{state-of}
 use Rattle.text.specs.Lines.{refusedText}
 use Rattle.text.specs.Output.{outputOf}
 use Rattle.text.specs.Pieces.{Step, stepsFrom}
@@ -57,7 +56,7 @@ module _ {W : Type 0} (step : List ℕ → W → List ℕ → Step W) (start : R
           let ok : readRefusal vram file ≡ Accepted = is-accepted (readRefusal vram file) e in
           let r = accepted-readable vram file ok in
           ap (λ (q : Refusal). stepsFrom (step (ifAccepted q (vramBytes file) vram)) (suc n) (start q (ifAccepted q held powerUpState)) slices) ok
-          ∙ shows (vramBytes file) (length-vram file (r .whole)) held (state-of (stateBytes file) (r .holds))
+          ∙ shows (vramBytes file) (length-vram file (r .whole)) held (r .holds)
           ∙ ap wholly (sym (output-shown shown vram file full ok))
       by false e =
           let c : Chip = readSnapshot powerUpState vram file .chip in

@@ -1,8 +1,13 @@
 -- `redraw_line` meets its contract.
-use mathlib.Core.Path.{refl, sym, _∙_}
+use mathlib.Core.Path.{_≡_, refl, sym, _∙_}
+use mathlib.Core.Bool.{false}
 use borrow.Author.Needs.{needs}
 use Rattle.frame.proofs.lines.redraw_line.Statement.{statement}
 use Rattle.frame.proofs.lines.redraw_line.Tie as tie
+
+-- a line that is left as it is is not due
+not-due : (c : tie.Else1) → c .before .is-due .result ≡ false
+not-due c = c .if1 .left
 
 is-due-requires : tie.Need-is-due-requires
 is-due-requires c κs = search needs
@@ -20,7 +25,7 @@ returns c =
     rw e (refl, (d .draw-row .ensures .0, d .draw-row .ensures .1))
 
 returns-2 : tie.Need-returns-2
-returns-2 c = rw (sym (c .before .is-due .ensures) ∙ c .if1 .left) (refl, (refl, refl))
+returns-2 c = rw (sym (c .before .is-due .ensures) ∙ not-due c) (refl, (refl, refl))
 
 pub redraw-line-spec : {M : Type 1} → statement M
 redraw-line-spec =

@@ -1,6 +1,6 @@
 -- `line_dirty` meets its contract.
 use mathlib.Core.Path.{_≡_, sym, ap, _∙_}
-use mathlib.Core.Bool.{Bool, _||_}
+use mathlib.Core.Bool.{Bool, true, _||_}
 use Rattle.chip.specs.Modes.{modeOf}
 use Rattle.fetches.specs.Fetch.{fetched, anyDirty}
 use Rattle.planes.specs.Cells.{planeOf}
@@ -43,8 +43,8 @@ returns-2 : tie.Need-returns-2
 returns-2 c =
     let h = c .before .before in
     let e = h .before in
-    let a = e .before .before .before .before .before .args in
-    c .scan-dirty .ensures ∙ sym (rest e ∙ rw (sym (shows h) ∙ c .before .if2 .taken))
+    let yes : h .has-sprites .result ≡ true = c .before .if2 .taken in
+    c .scan-dirty .ensures ∙ sym (rest e ∙ rw (sym (shows h) ∙ yes))
 
 returns-3 : tie.Need-returns-3
 unfolding fetched

@@ -1,9 +1,12 @@
 -- `read`: each test in turn, and what is decoded and copied past all of them.
-use Rattle.chip.specs.Layout.{holdsState}
+use Rattle.chip.specs.State.{wellFormed}
+use Rattle.chip.specs.Layout.{decoded}
 use Rattle.snapshot.specs.Tests.{stateBytes}
-use Prim.Native.Nat.{_≤_}
+use Prim.Native.Nat.{ℕ, _≤_}
 use native.Mathlib.Omega.{arith}
 use mathlib.Core.Path.{_≡_, refl, sym, ap, _∙_}
+use mathlib.Core.Bool.{true}
+use mathlib.Core.List.{List}
 use lib.ListN.{length}
 use denote.Ref.{now}
 use borrow.Author.Tests.{eq-eqb, ne-eqb}
@@ -59,11 +62,17 @@ fourteen c =
     let d = c .before .before .before .before .before in
     rw (c .state-bytes .ensures) (omega (arith, length-state (now (d .before .before .before .before .args .snapshot)) (d .if2 .left)))
 
-holds-state-requires : tie.Need-holds-state-requires
-holds-state-requires c κs = fourteen c
+decode-requires : tie.Need-decode-requires
+decode-requires c κs = fourteen c
 
-holds : (c : tie.After-holds-state) → c .holds-state .result ≡ holdsState (stateBytes (now (c .before .before .before .before .before .before .before .before .before .before .args .snapshot)))
-holds c = c .holds-state .ensures ∙ ap holdsState (c .before .state-bytes .ensures)
+next : (c : tie.After-decode) → c .decode .result ≡ decoded (stateBytes (now (c .before .before .before .before .before .before .before .before .before .before .args .snapshot))) true
+next c = c .decode .ensures ∙ ap (λ (b : List ℕ). decoded b true) (c .before .state-bytes .ensures)
+
+is-well-formed-requires : tie.Need-is-well-formed-requires
+is-well-formed-requires c κs = search needs
+
+formed : (c : tie.After-is-well-formed) → c .is-well-formed .result ≡ wellFormed (decoded (stateBytes (now (c .before .before .before .before .before .before .before .before .before .before .before .args .snapshot))) true)
+formed c = c .is-well-formed .ensures ∙ ap wellFormed (next (c .before))
 
 refused-requires-5 : tie.Need-refused-requires-5
 refused-requires-5 c κs = search needs
@@ -71,10 +80,10 @@ refused-requires-5 c κs = search needs
 returns-5 : tie.Need-returns-5
 returns-5 c =
     let h = c .before .before in
-    let e = h .before .before in
+    let e = h .before .before .before in
     let s = e .before in
     let b = s .before .before in
-    rw (eq-eqb _ _ (b .before .before .if1 .left), eq-eqb _ _ (b .before .if2 .left), left-not (b .points-back .ensures) (s .before .if3 .left), left-not (s .sum-is-right .ensures) (e .if4 .left), taken-not (holds h) (c .before .if5 .taken))
+    rw (eq-eqb _ _ (b .before .before .if1 .left), eq-eqb _ _ (b .before .if2 .left), left-not (b .points-back .ensures) (s .before .if3 .left), left-not (s .sum-is-right .ensures) (e .if4 .left), taken-not (formed h) (c .before .if5 .taken))
     (c .refused5 .ensures, refl)
 
 vram-bytes-requires : tie.Need-vram-bytes-requires
@@ -82,11 +91,8 @@ vram-bytes-requires c κs = search needs
 
 copy-requires : tie.Need-copy-requires
 copy-requires c κs =
-    let d = c .before .before .before .before .before .before .before .before .before in
+    let d = c .before .before .before .before .before .before .before .before .before .before in
     rw (c .vram-bytes .ensures) (d .before .if1 .left ∙ sym (length-vram (now (d .before .before .before .before .args .snapshot)) (d .if2 .left)))
-
-decode-requires : tie.Need-decode-requires
-decode-requires c κs = fourteen (c .before .before .before .before .before .before .before)
 
 accepted-requires : tie.Need-accepted-requires
 accepted-requires c κs = search needs
@@ -96,14 +102,14 @@ same-length c = search needs
 
 returns-6 : tie.Need-returns-6
 returns-6 c =
-    let m = c .before .before .before .before in
+    let m = c .before .before .before in
     let g = m .before .before .before in
     let h = g .before in
-    let e = h .before .before in
+    let e = h .before .before .before in
     let s = e .before in
     let b = s .before .before in
-    rw (eq-eqb _ _ (b .before .before .if1 .left), eq-eqb _ _ (b .before .if2 .left), left-not (b .points-back .ensures) (s .before .if3 .left), left-not (s .sum-is-right .ensures) (e .if4 .left), left-not (holds h) (g .if5 .left))
-    (rw (c .before .decode .ensures, h .before .state-bytes .ensures) at (c .accepted .ensures), m .copy .ensures ∙ m .before .vram-bytes .ensures)
+    rw (eq-eqb _ _ (b .before .before .if1 .left), eq-eqb _ _ (b .before .if2 .left), left-not (b .points-back .ensures) (s .before .if3 .left), left-not (s .sum-is-right .ensures) (e .if4 .left), left-not (formed h) (g .if5 .left))
+    (rw (next (h .before)) at (c .accepted .ensures), m .copy .ensures ∙ m .before .vram-bytes .ensures)
 
 pub read-spec : {M : Type 1} → statement M
 read-spec =
@@ -120,12 +126,12 @@ read-spec =
     refused-requires-4
     returns-4
     state-bytes-requires
-    holds-state-requires
+    decode-requires
+    is-well-formed-requires
     refused-requires-5
     returns-5
     vram-bytes-requires
     copy-requires
-    decode-requires
     accepted-requires
     same-length
     returns-6)

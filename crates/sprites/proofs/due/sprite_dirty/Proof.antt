@@ -31,7 +31,7 @@ sprite-pattern-address-requires c κs = search needs
 is-dirty-requires : tie.Need-is-dirty-requires
 is-dirty-requires c κs =
     let s = c .before .before .before .before .before .before .before in
-    let low : c .before .before .before .before .attribute-address .result < 16384 = rw (c .before .before .before .before .attribute-address .ensures) (attribute-inside (s .args .r) (s .pre .0) (s .args .n) 1 (s .pre .4) (lit< tt)) in
+    let low : c .before .before .before .before .attribute-address .result < 16384 = rw (c .before .before .before .before .attribute-address .ensures) (attribute-inside (s .args .r) (s .pre .0) (s .args .n) _ (s .pre .4) (lit< tt)) in
     omega arith
 
 is-dirty-requires-2 : tie.Need-is-dirty-requires-2

@@ -20,21 +20,21 @@ abbrev μ-loop : tie.MeasureT-loop
 
 -- where the loop still goes on, c is one of the sprite's columns and on the screen
 in-sprite : (c : tie.In-loop Inv-loop μ-loop) → c .before .loop .c < c .before .before .before .before .before .args .s .first + side (c .before .before .before .before .before .args .r)
-in-sprite c = omega (arith, c .before .before .before .end-column .ensures, c .loop-test .taken)
+in-sprite c = omega (arith, c .before .before .before .end-visible .ensures, c .loop-test .taken)
 
 on-screen : (c : tie.In-loop Inv-loop μ-loop) → c .before .loop .c < 288
-on-screen c = omega (arith, c .before .before .before .end-column .ensures, c .loop-test .taken)
+on-screen c = omega (arith, c .before .before .before .end-visible .ensures, c .loop-test .taken)
 
-end-column-requires : tie.Need-end-column-requires Inv-loop μ-loop
-end-column-requires c κs = search needs
+end-visible-requires : tie.Need-end-visible-requires Inv-loop μ-loop
+end-visible-requires c κs = search needs
 
-first-column-requires : tie.Need-first-column-requires Inv-loop μ-loop
-first-column-requires c κs = search needs
+first-visible-requires : tie.Need-first-visible-requires Inv-loop μ-loop
+first-visible-requires c κs = search needs
 
 loop-holds : tie.Need-loop-holds Inv-loop μ-loop
 loop-holds c =
     let a = c .before .before .before .args in
-    (omega (arith, c .first-column .ensures), swept-none (c .before .before .before .pre) (λ x below o. rw (hits-left (a .r) (a .s) (visible x) (omega (arith, c .first-column .ensures)))))
+    (omega (arith, c .first-visible .ensures), swept-none (c .before .before .before .pre) (λ x below o. rw (hits-left (a .r) (a .s) (visible x) (omega (arith, c .first-visible .ensures)))))
 
 sub-x : tie.Need-sub-x Inv-loop μ-loop
 sub-x c = omega arith
@@ -75,7 +75,7 @@ returns : tie.Need-returns Inv-loop μ-loop
 returns c =
     let a = c .before .before .before .before .before .args in
     let l = c .before .loop in
-    let keeps : (x : ℕ) → x < 256 → l .c ≤ visible x → (o : ℕ) → over (cond (hits (a .r) (a .s) (visible x)) (a .colour) 0) o ≡ o = λ x h above o. rw (hits-right (a .r) (a .s) (visible x) (omega (arith, c .before .before .before .end-column .ensures, c .loop-test .left))) in
+    let keeps : (x : ℕ) → x < 256 → l .c ≤ visible x → (o : ℕ) → over (cond (hits (a .r) (a .s) (visible x)) (a .colour) 0) o ≡ o = λ x h above o. rw (hits-right (a .r) (a .s) (visible x) (omega (arith, c .before .before .before .end-visible .ensures, c .loop-test .left))) in
     swept-all keeps (l .inv .1)
 
 pub paint-sprite-spec : {M : Type 1} → statement M
@@ -84,8 +84,8 @@ paint-sprite-spec =
     (tie.spec
     Inv-loop
     μ-loop
-    end-column-requires
-    first-column-requires
+    end-visible-requires
+    first-visible-requires
     loop-holds
     sub-x
     bit-at-requires

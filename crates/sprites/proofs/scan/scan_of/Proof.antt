@@ -1,10 +1,10 @@
 -- `scan_of` meets its contract.
 use Prim.Native.Nat.{ℕ, _-_, _<_}
-use mathlib.Core.Bool.{true}
+use mathlib.Core.Bool.{true, false}
 use native.Mathlib.Omega.{arith}
-use mathlib.Core.Path.{_≡_}
+use mathlib.Core.Path.{_≡_, sym, _∙_}
 use borrow.Author.Needs.{needs}
-use lib.Dec.{lit<}
+use lib.Dec.{lit<, eqb}
 use lib.ListN.{getD}
 use Rattle.chip.proofs.Laws.State.{taken-not, left-not}
 use Rattle.sprites.specs.Scan.{attributeAddress}
@@ -26,7 +26,7 @@ left c = let up = c .before .loop .inv .up in let not-all = c .if1 .left in omeg
 
 -- from a sprite that is not the terminator back
 abbrev E1 : tie.Else2 Inv-loop μ-loop → tie.Else1 Inv-loop μ-loop
-E1 c = c .before .before .before
+E1 c = c .before .before .before .before .before
 
 abbrev At : tie.Else2 Inv-loop μ-loop → tie.At-loop Inv-loop μ-loop
 At c = E1 c .before
@@ -37,18 +37,20 @@ St c = At c .before .before
 abbrev Y : tie.Else2 Inv-loop μ-loop → ℕ
 Y c = getD (St c .args .vram .now) (attributeAddress (St c .args .r) (At c .loop .n) 0) 0
 
-more : (c : tie.Else2 Inv-loop μ-loop) → Y c ≡ 208 → ⊥
-more c = rw (c .before .before .attribute-address .ensures) at (c .if2 .left)
+more : (c : tie.Else2 Inv-loop μ-loop) → eqb (Y c) 208 ≡ false
+more c =
+    let no : c .before .is-terminator .result ≡ false = c .if2 .left in
+    rw (c .before .before .before .before .attribute-address .ensures) at (sym (c .before .is-terminator .ensures) ∙ no)
 
-cov : (c : tie.After-covers Inv-loop μ-loop) → c .covers .result ≡ shape.covers (St (c .before) .args .r) (St (c .before) .args .l) (Y (c .before))
-cov c = rw (c .before .before .before .attribute-address .ensures) at (c .covers .ensures)
+cov : (c : tie.Else2 Inv-loop μ-loop) → c .before .before .covers .result ≡ shape.covers (St c .args .r) (St c .args .l) (Y c)
+cov c = rw (c .before .before .before .before .attribute-address .ensures) at (c .before .before .covers .ensures)
 
 -- sprite n covers the line
-does : (c : tie.Else3 Inv-loop μ-loop) → shape.covers (St (c .before .before) .args .r) (St (c .before .before) .args .l) (Y (c .before .before)) ≡ true
+does : (c : tie.Else3 Inv-loop μ-loop) → shape.covers (St (c .before) .args .r) (St (c .before) .args .l) (Y (c .before)) ≡ true
 does c = left-not (cov (c .before)) (c .if3 .left)
 
-few : (c : tie.Else4 Inv-loop μ-loop) → At (c .before .before .before) .loop .drawn < 4
-few c = let most = At (c .before .before .before) .loop .inv .few in let not-four = c .if4 .left in omega arith
+few : (c : tie.Else4 Inv-loop μ-loop) → At (c .before .before) .loop .drawn < 4
+few c = let most = At (c .before .before) .loop .inv .few in let not-four = c .if4 .left in omega arith
 
 loop-holds : tie.Need-loop-holds Inv-loop μ-loop
 loop-holds c = going-start (search needs)
@@ -66,24 +68,27 @@ shared-slice-read-y c =
 covers-requires : tie.Need-covers-requires Inv-loop μ-loop
 covers-requires c κs = search needs
 
+is-terminator-requires : tie.Need-is-terminator-requires Inv-loop μ-loop
+is-terminator-requires c κs = search needs
+
 add-n : tie.Need-add-n Inv-loop μ-loop
-add-n c = omega (arith, left (c .before .before .before .before .before))
+add-n c = omega (arith, left (E1 (c .before)))
 
 loop-less : tie.Need-loop-less Inv-loop μ-loop
-loop-less c = omega (arith, left (c .before .before .before .before .before))
+loop-less c = omega (arith, left (E1 (c .before)))
 
 loop-again : tie.Need-loop-again Inv-loop μ-loop
 loop-again c =
-    let e = c .before .before in
-    going-on (At e .loop .inv) (left (E1 e)) (not-covering (St e .args .r) (St e .args .l) (St e .args .vram .now) (At e .loop .n) (At e .loop .drawn) (left (E1 e)) (more e) (taken-not (cov (c .before)) (c .if3 .taken)))
+    let e = c .before in
+    going-on (At e .loop .inv) (left (E1 e)) (not-covering (St e .args .r) (St e .args .l) (St e .args .vram .now) (At e .loop .n) (At e .loop .drawn) (left (E1 e)) (more e) (taken-not (cov e) (c .if3 .taken)))
 
-cast-t16 : tie.Need-cast-t16 Inv-loop μ-loop
-cast-t16 c = omega (arith, left (E1 (c .before .before .before)))
+cast-fifth : tie.Need-cast-fifth Inv-loop μ-loop
+cast-fifth c = omega (arith, left (E1 (c .before .before)))
 
 sprite-of-requires : tie.Need-sprite-of-requires Inv-loop μ-loop
 sprite-of-requires c κs =
-    let e = c .before .before .before in
-    (St e .pre .0, St e .pre .1, left-not (c .before .before .covers .ensures) (c .before .if3 .left), left (E1 e))
+    let e = c .before .before in
+    (St e .pre .0, St e .pre .1, left-not (e .before .before .covers .ensures) (c .before .if3 .left), left (E1 e))
 
 mul-sprites : tie.Need-mul-sprites Inv-loop μ-loop
 mul-sprites c = omega (arith, few (c .before))
@@ -95,16 +100,16 @@ add-drawn : tie.Need-add-drawn Inv-loop μ-loop
 add-drawn c = omega (arith, few (c .before))
 
 add-n-2 : tie.Need-add-n-2 Inv-loop μ-loop
-add-n-2 c = omega (arith, left (c .before .before .before .before .before .before .before))
+add-n-2 c = omega (arith, left (E1 (c .before .before .before)))
 
 loop-less-2 : tie.Need-loop-less-2 Inv-loop μ-loop
-loop-less-2 c = omega (arith, left (c .before .before .before .before .before .before .before))
+loop-less-2 c = omega (arith, left (E1 (c .before .before .before)))
 
 loop-again-2 : tie.Need-loop-again-2 Inv-loop μ-loop
 loop-again-2 c =
-    let e = c .before .before .before .before in
+    let e = c .before .before .before in
     let d = drawn (St e .args .r) (St e .args .l) (St e .args .vram .now) (At e .loop .n) (At e .loop .drawn) (left (E1 e)) (more e) (does (c .before .before)) (c .before .if4 .left) in
-    let s = rw (e .before .before .attribute-address .ensures) at (c .sprite-of .ensures) in
+    let s = rw (e .before .before .before .before .attribute-address .ensures) at (c .sprite-of .ensures) in
     going-draw (At e .loop .inv) (c .sprite-of .result) (left (E1 e)) (few (c .before)) (rw s d)
 
 returns : tie.Need-returns Inv-loop μ-loop
@@ -112,14 +117,14 @@ returns c = going-end (c .before .loop .inv) _ (at-end _ _ _ _ _ (c .if1 .taken)
 
 returns-2 : tie.Need-returns-2 Inv-loop μ-loop
 returns-2 c =
-    let a = c .before .before in
+    let a = c .before .before .before .before in
     let s = a .before .before .before .before in
     let h = a .before .before .loop in
-    going-end (h .inv) _ (at-terminator (s .args .r) (s .args .l) (s .args .vram .now) (h .n) (h .drawn) (left (a .before)) (rw (a .attribute-address .ensures) at (c .if2 .taken)))
+    going-end (h .inv) _ (at-terminator (s .args .r) (s .args .l) (s .args .vram .now) (h .n) (h .drawn) (left (a .before)) (rw (a .attribute-address .ensures) at (sym (c .before .is-terminator .ensures) ∙ c .if2 .taken)))
 
 returns-3 : tie.Need-returns-3 Inv-loop μ-loop
 returns-3 c =
-    let e = c .before .before .before in
+    let e = c .before .before in
     going-end (At e .loop .inv) _ (at-fifth (St e .args .r) (St e .args .l) (St e .args .vram .now) (At e .loop .n) (At e .loop .drawn) (left (E1 e)) (more e) (does (c .before)) (c .if4 .taken))
 
 pub scan-of-spec : {M : Type 1} → statement M
@@ -132,10 +137,11 @@ scan-of-spec =
     attribute-address-requires
     shared-slice-read-y
     covers-requires
+    is-terminator-requires
     add-n
     loop-less
     loop-again
-    cast-t16
+    cast-fifth
     sprite-of-requires
     mul-sprites
     array-set-from-sprites

@@ -1,0 +1,172 @@
+-- The description of each call.
+use mathlib.Core.Bool.{true, false}
+use mathlib.Core.List.{[], _∷_}
+use Rattle.chip.specs.State.{Bytes}
+use Rattle.chip.specs.Refusals.{sliceTest, lineTest}
+use Rattle.chip.specs.Calls as chip
+use Rattle.scanline.specs.Calls as scanline
+use Rattle.frame.specs.Calls as frame
+use Rattle.snapshot.specs.Tests.{sizeTest, trailerTest, sumTest, contentsTest}
+use Rattle.snapshot.specs.Calls as snapshot
+use Rattle.birdcleft.specs.Calls as c-ports
+use Rattle.birdcleft.specs.Lines as c-lines
+use Rattle.birdcleft.specs.Frames as c-frames
+use Rattle.birdcleft.specs.Snapshots as c-snapshots
+use Rattle.claims.specs.Call.{Op}
+use Rattle.claims.specs.Description.{Description, noList, vramAlone, vramAndMap, allLists, nothing, aByte, ofAnswer, ofResult, ofFromC, answers, fills, replaces, writes, draws}
+
+abbrev pub described : Op → Description
+described Op.powerUp =
+    record {
+      takes = vramAlone;
+      testsState = false;
+      brings = nothing;
+      numbers = 1;
+      establishes = true;
+      directly = λ b. replaces b (ofAnswer (chip.powerUp (b .chip) (b .vram))) (chip.powerUpVram (b .vram));
+      throughC = λ block b. replaces b (ofFromC (c-ports.powerUp block (b .vram))) (c-ports.powerUpVram block (b .vram));
+    }
+described (Op.controlWrite x) =
+    record {
+      takes = vramAlone;
+      testsState = true;
+      brings = aByte x;
+      numbers = 1;
+      establishes = false;
+      directly = λ b. answers b (ofAnswer (chip.controlWrite (b .chip) (b .vram) x));
+      throughC = λ block b. answers b (ofFromC (c-ports.controlWrite block (b .vram) x));
+    }
+described (Op.dataWrite x) =
+    record {
+      takes = vramAndMap;
+      testsState = true;
+      brings = aByte x;
+      numbers = 1;
+      establishes = false;
+      directly = λ b.
+          writes b (ofAnswer (chip.dataWrite (b .chip) (b .vram) (b .map) x))
+          (chip.dataWriteVram (b .chip) (b .vram) (b .map) x)
+          (chip.dataWriteMap (b .chip) (b .vram) (b .map));
+      throughC = λ block b.
+          writes b (ofFromC (c-ports.dataWrite block (b .vram) (b .map) x))
+          (c-ports.dataWriteVram block (b .vram) (b .map) x)
+          (c-ports.dataWriteMap block (b .vram) (b .map));
+    }
+described Op.dataRead =
+    record {
+      takes = vramAlone;
+      testsState = true;
+      brings = nothing;
+      numbers = 1;
+      establishes = false;
+      directly = λ b. answers b (ofAnswer (chip.dataRead (b .chip) (b .vram)));
+      throughC = λ block b. answers b (ofFromC (c-ports.dataRead block (b .vram)));
+    }
+described Op.statusRead =
+    record {
+      takes = noList;
+      testsState = true;
+      brings = nothing;
+      numbers = 1;
+      establishes = false;
+      directly = λ b. answers b (ofAnswer (chip.statusRead (b .chip)));
+      throughC = λ block b. answers b (ofFromC (c-ports.statusRead block));
+    }
+described Op.endOfDisplay =
+    record {
+      takes = noList;
+      testsState = true;
+      brings = nothing;
+      numbers = 1;
+      establishes = false;
+      directly = λ b. answers b (ofAnswer (chip.endOfDisplay (b .chip)));
+      throughC = λ block b. answers b (ofFromC (c-ports.endOfDisplay block));
+    }
+described Op.interruptLine =
+    record {
+      takes = noList;
+      testsState = true;
+      brings = nothing;
+      numbers = 1;
+      establishes = false;
+      directly = λ b. answers b (ofAnswer (chip.interruptLine (b .chip)));
+      throughC = λ block b. answers b (ofResult block (c-ports.interruptLine block));
+    }
+described Op.reset =
+    record {
+      takes = noList;
+      testsState = true;
+      brings = nothing;
+      numbers = 1;
+      establishes = true;
+      directly = λ b. answers b (ofAnswer (chip.reset (b .chip)));
+      throughC = λ block b. answers b (ofFromC (c-ports.reset block));
+    }
+described (Op.drawLine line l) =
+    record {
+      takes = vramAlone;
+      testsState = true;
+      brings = record { tests = λ c. sliceTest scanline.lineSize line ∷ lineTest l ∷ []; slices = line ∷ []; AreBytes = Unit {0} };
+      numbers = 1;
+      establishes = false;
+      directly = λ b.
+          fills b (ofAnswer (scanline.drawLine (b .chip) (b .vram) line l))
+          (scanline.drawLineLine (b .chip) (b .vram) line l ∷ []);
+      throughC = λ block b.
+          fills b (ofFromC (c-lines.drawLine block (b .vram) line l))
+          (c-lines.drawLineLine block (b .vram) line l ∷ []);
+    }
+described Op.fullDraw =
+    record {
+      takes = allLists;
+      testsState = true;
+      brings = nothing;
+      numbers = 1;
+      establishes = true;
+      directly = λ b.
+          draws b (ofAnswer (frame.fullDraw (b .chip) (b .vram) (b .map) (b .frame) (b .notes))) (frame.drawMap (b .chip) (b .vram) (b .map) (b .frame) (b .notes))
+          (frame.fullDrawFrame (b .chip) (b .vram) (b .map) (b .frame) (b .notes))
+          (frame.fullDrawNotes (b .chip) (b .vram) (b .map) (b .frame) (b .notes));
+      throughC = λ block b.
+          draws b (ofFromC (c-frames.fullDraw block (b .vram) (b .map) (b .frame) (b .notes))) (c-frames.drawMap block (b .vram) (b .map) (b .frame) (b .notes))
+          (c-frames.fullDrawFrame block (b .vram) (b .map) (b .frame) (b .notes))
+          (c-frames.fullDrawNotes block (b .vram) (b .map) (b .frame) (b .notes));
+    }
+described Op.refresh =
+    record {
+      takes = allLists;
+      testsState = true;
+      brings = nothing;
+      numbers = 1;
+      establishes = false;
+      directly = λ b.
+          draws b (ofAnswer (frame.refresh (b .chip) (b .vram) (b .map) (b .frame) (b .notes))) (frame.drawMap (b .chip) (b .vram) (b .map) (b .frame) (b .notes))
+          (frame.refreshFrame (b .chip) (b .vram) (b .map) (b .frame) (b .notes))
+          (frame.refreshNotes (b .chip) (b .vram) (b .map) (b .frame) (b .notes));
+      throughC = λ block b.
+          draws b (ofFromC (c-frames.refresh block (b .vram) (b .map) (b .frame) (b .notes))) (c-frames.drawMap block (b .vram) (b .map) (b .frame) (b .notes))
+          (c-frames.refreshFrame block (b .vram) (b .map) (b .frame) (b .notes))
+          (c-frames.refreshNotes block (b .vram) (b .map) (b .frame) (b .notes));
+    }
+described (Op.readSnapshot s) =
+    record {
+      takes = vramAlone;
+      testsState = false;
+      brings = record { tests = λ c. sizeTest s ∷ trailerTest s ∷ sumTest s ∷ contentsTest s ∷ []; slices = []; AreBytes = Bytes s };
+      numbers = 1;
+      establishes = true;
+      directly = λ b. replaces b (ofAnswer (snapshot.readSnapshot (b .chip) (b .vram) s)) (snapshot.readVram (b .vram) s);
+      throughC = λ block b. replaces b (ofFromC (c-snapshots.readSnapshot block (b .vram) s)) (c-snapshots.readVram block (b .vram) s);
+    }
+described (Op.writeSnapshot s) =
+    record {
+      takes = vramAlone;
+      testsState = true;
+      brings = record { tests = λ c. sizeTest s ∷ []; slices = s ∷ []; AreBytes = Unit {0} };
+      numbers = 1;
+      establishes = false;
+      directly = λ b. fills b (ofAnswer (snapshot.writeSnapshot (b .chip) (b .vram) s)) (snapshot.written (b .chip) (b .vram) s ∷ []);
+      throughC = λ block b.
+          fills b (ofResult block (c-snapshots.writeSnapshot block (b .vram) s))
+          (c-snapshots.written block (b .vram) s ∷ []);
+    }
