@@ -27,7 +27,7 @@ is-clear-requires c κs = search needs
 returns : tie.Need-returns Inv-loop μ-loop
 returns c =
     let a = c .before .before .before .before .before .before .args in
-    let both = clear-both (a .redraw) _ (c .if1 .taken) in
+    let both = clear-both (a .redraw) (c .before .is-clear .result) (c .if1 .taken) in
     let clear = sym (c .before .is-clear .ensures) ∙ both .1 in
     rw (both .0)
     (no-count (now (a .map)) clear (a .r) (now (a .vram)), (frame-stays (now (a .map)) clear (a .r) (now (a .vram)) (now (a .frame)) (omega arith), notes-stay (now (a .map)) clear (a .r) (now (a .vram)) (now (a .notes)) (omega arith)))
