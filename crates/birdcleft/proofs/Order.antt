@@ -1,36 +1,123 @@
--- The theorem about the tests of a call from C: those at entry, and then the direct call's, refuse as all of them do together in
--- the one order. (A direct call tests VRAM's length at most once: its other tests, ts, do not give that refusal.)
-use Prim.Native.Nat.{ℕ}
+-- The order of tests of a call from C. A call makes some tests at entry and the others in the direct call, on the state that
+-- the block decodes to. It answers all the same as if it made them together in the one order: the direct call's tests, and
+-- the block's length with them.
+use Prim.Native.Nat.{ℕ, _+_, _*_}
+use mir.Val.{boolByte}
 use mathlib.Core.Path.{_≡_, refl}
 use mathlib.Core.Bool.{Bool, true, false}
 use mathlib.Core.List.{List, [], _∷_}
 use lib.Dec.{eqb}
 use lib.ListN.{length}
-use Rattle.chip.specs.Refusals.{Test, vramTest, sliceTest, gives, refusalOf, ifAccepted}
-use Rattle.chip.specs.Layout.{blockSize}
+use Rattle.chip.specs.Map.{mapSize}
+use Rattle.chip.specs.Ports.{interruptOn}
+use Rattle.chip.specs.Refusals.{Test, vramTest, sliceTest, stateTest, lineTest, numberOf, gives, refusalOf, ifAccepted}
+use Rattle.chip.specs.Layout.{blockSize, chipOf}
+use Rattle.chip.specs.Calls.{powerUpTests, controlWriteTests, dataWriteTests, dataReadTests, statusReadTests, endOfDisplayTests, interruptLineTests, resetTests}
+use Rattle.chip.specs.declared.state.Chip.{Chip}
 use Rattle.chip.specs.declared.refusal.Refusal.the-variants.{VramLength, SliceLength}
-use Rattle.birdcleft.specs.Calls.{blockEntry, vramEntry}
+use Rattle.scanline.specs.Calls.{lineSize, drawLineTests}
+use Rattle.frame.specs.Lines.{frameSize, notesSize}
+use Rattle.frame.specs.Due.{dueCount}
+use Rattle.frame.specs.Calls.{drawTests}
+use Rattle.snapshot.specs.Tests.{sizeTest, trailerTest, sumTest, contentsTest}
+use Rattle.snapshot.specs.Calls.{readTests, writeTests}
+use Rattle.birdcleft.specs.Calls.{blockEntry, vramEntry, resultThrough, powerUp, controlWrite, dataWrite, dataRead, statusRead, endOfDisplay, interruptLine, reset}
+use Rattle.birdcleft.specs.Lines.{drawLine}
+use Rattle.birdcleft.specs.Frames.{fullDraw, refresh}
+use Rattle.birdcleft.specs.Snapshots.{readSnapshot, writeSnapshot}
 
-module _ (ts : List Test) (other : gives ts VramLength ≡ false) (block : List ℕ) where
+-- The result of a call that makes these tests together: 256 times the number of the first refusal in the one order, and the
+-- number that the call reads where every test passes.
+abbrev pub resultAfter : List Test → ℕ → ℕ
+resultAfter ts number = numberOf (refusalOf ts) * 256 + ifAccepted (refusalOf ts) number 0
+
+-- The tests at entry, and then the direct call's. (It tests VRAM's length at most once: its other tests, ts, do not give that
+-- refusal.)
+module _ (ts : List Test) (other : gives ts VramLength ≡ false) (number : ℕ) (block : List ℕ) where
   abbrev long : Bool → Test
   long p = record { refusal = VramLength; passes = p }
 
   abbrev fits : Bool → Test
   fits q = record { refusal = SliceLength; passes = q }
 
-  pub vram-in-order : (vram : List ℕ) → ifAccepted (vramEntry block vram) (refusalOf (vramTest vram ∷ ts)) (vramEntry block vram) ≡ refusalOf (vramTest vram ∷ sliceTest blockSize block ∷ ts)
+  pub vram-in-order : (vram : List ℕ) → ifAccepted (vramEntry block vram) (resultAfter (vramTest vram ∷ ts) number) (numberOf (vramEntry block vram) * 256) ≡ resultAfter (sliceTest blockSize block ∷ vramTest vram ∷ ts) number
   unfolding vramEntry
   vram-in-order vram = by (eqb (length vram) 16384) (eqb (length block) 15)
     where
-      by : (p q : Bool) → let entry = refusalOf (long p ∷ fits q ∷ []) in ifAccepted entry (refusalOf (long p ∷ ts)) entry ≡ refusalOf (long p ∷ fits q ∷ ts)
+      by : (p q : Bool) → let entry = refusalOf (long p ∷ fits q ∷ []) in ifAccepted entry (resultAfter (long p ∷ ts) number) (numberOf entry * 256) ≡ resultAfter (fits q ∷ long p ∷ ts) number
       by true true = refl
       by true false = rw other
       by false q = refl
 
-  pub block-in-order : ifAccepted (blockEntry block) (refusalOf ts) (blockEntry block) ≡ refusalOf (sliceTest blockSize block ∷ ts)
+  pub block-in-order : ifAccepted (blockEntry block) (resultAfter ts number) (numberOf (blockEntry block) * 256) ≡ resultAfter (sliceTest blockSize block ∷ ts) number
   unfolding blockEntry
   block-in-order = by (eqb (length block) 15)
     where
-      by : (q : Bool) → let entry = refusalOf (fits q ∷ []) in ifAccepted entry (refusalOf ts) entry ≡ refusalOf (fits q ∷ ts)
+      by : (q : Bool) → let entry = refusalOf (fits q ∷ []) in ifAccepted entry (resultAfter ts number) (numberOf entry * 256) ≡ resultAfter (fits q ∷ ts) number
       by true = refl
       by false = rw other
+
+-- So it is for each of the thirteen calls, whatever bytes and lists are lent.
+module _ (block : List ℕ) where
+  abbrev pub blockTest : Test
+  blockTest = sliceTest blockSize block
+
+  abbrev pub held : Chip
+  held = chipOf block
+
+  pub status-read-order : statusRead block .result ≡ resultAfter (blockTest ∷ statusReadTests held) (held .status)
+  unfolding resultThrough
+  status-read-order = block-in-order (statusReadTests held) refl (held .status) block
+
+  pub end-of-display-order : endOfDisplay block .result ≡ resultAfter (blockTest ∷ endOfDisplayTests held) 0
+  unfolding resultThrough
+  end-of-display-order = block-in-order (endOfDisplayTests held) refl 0 block
+
+  pub interrupt-line-order : interruptLine block ≡ resultAfter (blockTest ∷ interruptLineTests held) (boolByte (interruptOn held))
+  unfolding resultThrough
+  interrupt-line-order = block-in-order (interruptLineTests held) refl (boolByte (interruptOn held)) block
+
+  pub reset-order : reset block .result ≡ resultAfter (blockTest ∷ resetTests held) 0
+  unfolding resultThrough
+  reset-order = block-in-order (resetTests held) refl 0 block
+
+  module _ (vram : List ℕ) where
+    pub power-up-order : powerUp block vram .result ≡ resultAfter (blockTest ∷ powerUpTests vram) 0
+    unfolding resultThrough
+    power-up-order = vram-in-order [] refl 0 block vram
+
+    pub control-write-order : (b : ℕ) → controlWrite block vram b .result ≡ resultAfter (blockTest ∷ controlWriteTests held vram) 0
+    unfolding resultThrough
+    control-write-order b = vram-in-order (stateTest held ∷ []) refl 0 block vram
+
+    pub data-write-order : (map : List ℕ) (b : ℕ) → dataWrite block vram map b .result ≡ resultAfter (blockTest ∷ dataWriteTests held vram map) 0
+    unfolding resultThrough
+    data-write-order map b = vram-in-order (sliceTest mapSize map ∷ stateTest held ∷ []) refl 0 block vram
+
+    pub data-read-order : dataRead block vram .result ≡ resultAfter (blockTest ∷ dataReadTests held vram) (held .buffer)
+    unfolding resultThrough
+    data-read-order = vram-in-order (stateTest held ∷ []) refl (held .buffer) block vram
+
+    pub draw-line-order : (line : List ℕ) (l : ℕ) → drawLine block vram line l .result ≡ resultAfter (blockTest ∷ drawLineTests held vram line l) 0
+    unfolding resultThrough
+    draw-line-order line l = vram-in-order (stateTest held ∷ sliceTest lineSize line ∷ lineTest l ∷ []) refl 0 block vram
+
+    pub read-snapshot-order : (s : List ℕ) → readSnapshot block vram s .result ≡ resultAfter (blockTest ∷ readTests vram s) 0
+    unfolding resultThrough
+    read-snapshot-order s = vram-in-order (sizeTest s ∷ trailerTest s ∷ sumTest s ∷ contentsTest s ∷ []) refl 0 block vram
+
+    pub write-snapshot-order : (out : List ℕ) → writeSnapshot block vram out ≡ resultAfter (blockTest ∷ writeTests held vram out) 0
+    unfolding resultThrough
+    write-snapshot-order out = vram-in-order (stateTest held ∷ sizeTest out ∷ []) refl 0 block vram
+
+    module _ (map frame notes : List ℕ) where
+      abbrev drawOthers : List Test
+      drawOthers = sliceTest mapSize map ∷ sliceTest frameSize frame ∷ sliceTest notesSize notes ∷ stateTest held ∷ []
+
+      pub full-draw-order : fullDraw block vram map frame notes .result ≡ resultAfter (blockTest ∷ drawTests held vram map frame notes) 0
+      unfolding resultThrough
+      full-draw-order = vram-in-order drawOthers refl 0 block vram
+
+      pub refresh-order : refresh block vram map frame notes .result ≡ resultAfter (blockTest ∷ drawTests held vram map frame notes) (dueCount (held .redraw) (held .registers) vram map)
+      unfolding resultThrough
+      refresh-order = vram-in-order drawOthers refl (dueCount (held .redraw) (held .registers) vram map) block vram
