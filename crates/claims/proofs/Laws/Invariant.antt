@@ -79,8 +79,8 @@ clean-by-redraw e r vram map frame notes = rw e (clean-while-redraw r vram map f
 same-clean : {m k : Bool} {r s vram map frame notes : List ℕ} → k ≡ m → s ≡ r → Clean m r vram map frame notes → Clean k s vram map frame notes
 same-clean e f clean = rw (e, f) clean
 
-marked : {b : Bench} → Lengths b → (d : Chip) (vram : List ℕ) → Ready d → d .redraw ≡ true → length vram ≡ vramSize → Bytes vram → Invariant (withMemory d vram b)
-marked {b} lengths d vram ready m long bytes =
+redraw-set : {b : Bench} → Lengths b → (d : Chip) (vram : List ℕ) → Ready d → d .redraw ≡ true → length vram ≡ vramSize → Bytes vram → Invariant (withMemory d vram b)
+redraw-set {b} lengths d vram ready m long bytes =
     record {
       lengths = record { vram = long; map = lengths .map; frame = lengths .frame; notes = lengths .notes };
       ready = ready;
@@ -142,14 +142,14 @@ module _ {b : Bench} (inv : Invariant b) where
       λ i. bench (drawnState (b .chip) (notes i)) (b .vram) clearMap (frame i) (notes i)
 
   pub keeps : {e : Bool} {after : Bench} → Effect e b after → Invariant after
-  keeps (sets-mark d vram is ready m long bytes) = subst⁻¹ Invariant is (marked (inv .lengths) d vram ready m long bytes)
+  keeps (sets-mark d vram is ready m long bytes) = subst⁻¹ Invariant is (redraw-set (inv .lengths) d vram ready m long bytes)
   keeps (draws-all is ready) = subst⁻¹ Invariant is (all-drawn (b .chip) (b .vram) ready (inv .lengths .vram) (inv .bytes))
   keeps (changes-no-line d e is ready r m) = subst⁻¹ Invariant is (no-line-changed d ready r m)
   keeps (writes-byte x e is h) = subst⁻¹ Invariant is (byte-written x h)
   keeps (refreshes e is) = subst⁻¹ Invariant (is ∙ refreshed-drawn) (all-drawn (b .chip) (b .vram) (inv .ready) (inv .lengths .vram) (inv .bytes))
 
 pub establish : {b : Bench} → Lengths b → Typed b → {after : Bench} → Effect true b after → Invariant after
-establish lengths typed (sets-mark d vram is ready m long bytes) = subst⁻¹ Invariant is (marked lengths d vram ready m long bytes)
+establish lengths typed (sets-mark d vram is ready m long bytes) = subst⁻¹ Invariant is (redraw-set lengths d vram ready m long bytes)
 establish {b} lengths typed (draws-all is ready) = subst⁻¹ Invariant is (all-drawn (b .chip) (b .vram) ready (lengths .vram) (typed .vram))
 establish lengths typed (changes-no-line d e is ready r m) = absurd (differ e)
 establish lengths typed (writes-byte x e is h) = absurd (differ e)
