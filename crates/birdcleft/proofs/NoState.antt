@@ -10,16 +10,16 @@ use borrow.Author.Tests.{lt-leb, le-leb, eq-eqb, ne-eqb}
 use Rattle.chip.specs.State.{vramSize, masked, wellFormed}
 use Rattle.chip.specs.Map.{mapSize}
 use Rattle.chip.specs.Layout.{illFormedState, waitingValid, stateIn, decoded, blockSize, chipOf}
-use Rattle.chip.specs.Refusals.{Test, vramTest, sliceTest, stateTest, lineTest, numberOf, refusalOf, ifAccepted}
+use Rattle.chip.specs.Refusals.{Test, vramTest, sliceTest, stateTest, numberOf, refusalOf, ifAccepted}
 use Rattle.chip.specs.declared.state.Chip.{Chip}
 use Rattle.chip.specs.declared.refusal.Refusal.{Refusal}
 use Rattle.chip.specs.declared.refusal.Refusal.the-variants.{IllFormed}
 use Rattle.chip.proofs.Laws.Ranges.{and-false}
 use Rattle.chip.proofs.Laws.Refusals.{AllPass, passed}
-use Rattle.scanline.specs.Calls.{lineSize}
+use Rattle.scanline.specs.Calls.{lineSize, drawLineOwnTests}
 use Rattle.frame.specs.Lines.{frameSize, notesSize}
 use Rattle.snapshot.specs.Format.{snapshotSize}
-use Rattle.snapshot.specs.Tests.{sizeTest}
+use Rattle.snapshot.specs.Calls.{outputTests}
 use Rattle.birdcleft.specs.Calls.{controlWrite, dataWrite, dataRead, statusRead, endOfDisplay, interruptLine, reset}
 use Rattle.birdcleft.specs.Lines.{drawLine}
 use Rattle.birdcleft.specs.Frames.{fullDraw, refresh}
@@ -116,10 +116,10 @@ module _ (block : List ℕ) (unencoded : NoState block) (fifteen : length block 
     pub draw-line-refused : (line : List ℕ) (l : ℕ) → length line ≡ lineSize → l ≤ 191 → drawLine block vram line l .result ≡ refused
     draw-line-refused line l fits within =
         order.draw-line-order block vram line l
-        ∙ with-vram (sliceTest lineSize line ∷ lineTest l ∷ []) (eq-eqb _ _ fits, (le-leb _ _ within, tt)) _
+        ∙ with-vram (drawLineOwnTests line l) (eq-eqb _ _ fits, (le-leb _ _ within, tt)) _
 
     pub write-snapshot-refused : (out : List ℕ) → length out ≡ snapshotSize → writeSnapshot block vram out ≡ refused
-    write-snapshot-refused out fits = order.write-snapshot-order block vram out ∙ with-vram (sizeTest out ∷ []) (eq-eqb _ _ fits, tt) _
+    write-snapshot-refused out fits = order.write-snapshot-order block vram out ∙ with-vram (outputTests out) (eq-eqb _ _ fits, tt) _
 
     module _ (map : List ℕ) (mapped : length map ≡ mapSize) where
       pub data-write-refused : (b : ℕ) → dataWrite block vram map b .result ≡ refused

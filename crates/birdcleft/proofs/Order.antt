@@ -10,17 +10,16 @@ use lib.Dec.{eqb}
 use lib.ListN.{length}
 use Rattle.chip.specs.Map.{mapSize}
 use Rattle.chip.specs.Ports.{interruptOn}
-use Rattle.chip.specs.Refusals.{Test, vramTest, sliceTest, stateTest, lineTest, numberOf, gives, refusalOf, ifAccepted}
+use Rattle.chip.specs.Refusals.{Test, vramTest, sliceTest, stateTest, numberOf, gives, refusalOf, ifAccepted}
 use Rattle.chip.specs.Layout.{blockSize, chipOf}
 use Rattle.chip.specs.Calls.{powerUpTests, controlWriteTests, dataWriteTests, dataReadTests, statusReadTests, endOfDisplayTests, interruptLineTests, resetTests}
 use Rattle.chip.specs.declared.state.Chip.{Chip}
 use Rattle.chip.specs.declared.refusal.Refusal.the-variants.{VramLength, SliceLength}
-use Rattle.scanline.specs.Calls.{lineSize, drawLineTests}
+use Rattle.scanline.specs.Calls.{drawLineOwnTests, drawLineTests}
 use Rattle.frame.specs.Lines.{frameSize, notesSize}
 use Rattle.frame.specs.Due.{dueCount}
 use Rattle.frame.specs.Calls.{drawTests}
-use Rattle.snapshot.specs.Tests.{sizeTest, trailerTest, sumTest, contentsTest}
-use Rattle.snapshot.specs.Calls.{readTests, writeTests}
+use Rattle.snapshot.specs.Calls.{fileTests, readTests, outputTests, writeTests}
 use Rattle.birdcleft.specs.Calls.{blockEntry, vramEntry, resultThrough, powerUp, controlWrite, dataWrite, dataRead, statusRead, endOfDisplay, interruptLine, reset}
 use Rattle.birdcleft.specs.Lines.{drawLine}
 use Rattle.birdcleft.specs.Frames.{fullDraw, refresh}
@@ -100,15 +99,15 @@ module _ (block : List ℕ) where
 
     pub draw-line-order : (line : List ℕ) (l : ℕ) → drawLine block vram line l .result ≡ resultAfter (blockTest ∷ drawLineTests held vram line l) 0
     unfolding resultThrough
-    draw-line-order line l = vram-in-order (stateTest held ∷ sliceTest lineSize line ∷ lineTest l ∷ []) refl 0 block vram
+    draw-line-order line l = vram-in-order (stateTest held ∷ drawLineOwnTests line l) refl 0 block vram
 
     pub read-snapshot-order : (s : List ℕ) → readSnapshot block vram s .result ≡ resultAfter (blockTest ∷ readTests vram s) 0
     unfolding resultThrough
-    read-snapshot-order s = vram-in-order (sizeTest s ∷ trailerTest s ∷ sumTest s ∷ contentsTest s ∷ []) refl 0 block vram
+    read-snapshot-order s = vram-in-order (fileTests s) refl 0 block vram
 
     pub write-snapshot-order : (out : List ℕ) → writeSnapshot block vram out ≡ resultAfter (blockTest ∷ writeTests held vram out) 0
     unfolding resultThrough
-    write-snapshot-order out = vram-in-order (stateTest held ∷ sizeTest out ∷ []) refl 0 block vram
+    write-snapshot-order out = vram-in-order (stateTest held ∷ outputTests out) refl 0 block vram
 
     module _ (map frame notes : List ℕ) where
       abbrev drawOthers : List Test

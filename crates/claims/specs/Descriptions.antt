@@ -2,11 +2,9 @@
 use mathlib.Core.Bool.{true, false}
 use mathlib.Core.List.{[], _∷_}
 use Rattle.chip.specs.State.{Bytes}
-use Rattle.chip.specs.Refusals.{sliceTest, lineTest}
 use Rattle.chip.specs.Calls as chip
 use Rattle.scanline.specs.Calls as scanline
 use Rattle.frame.specs.Calls as frame
-use Rattle.snapshot.specs.Tests.{sizeTest, trailerTest, sumTest, contentsTest}
 use Rattle.snapshot.specs.Calls as snapshot
 use Rattle.birdcleft.specs.Calls as c-ports
 use Rattle.birdcleft.specs.Lines as c-lines
@@ -106,7 +104,7 @@ described (Op.drawLine line l) =
     record {
       takes = vramAlone;
       testsState = true;
-      brings = record { tests = λ c. sliceTest scanline.lineSize line ∷ lineTest l ∷ []; slices = line ∷ []; AreBytes = Unit {0} };
+      brings = record { tests = λ c. scanline.drawLineOwnTests line l; slices = line ∷ []; AreBytes = Unit {0} };
       numbers = 1;
       establishes = false;
       directly = λ b.
@@ -152,7 +150,7 @@ described (Op.readSnapshot s) =
     record {
       takes = vramAlone;
       testsState = false;
-      brings = record { tests = λ c. sizeTest s ∷ trailerTest s ∷ sumTest s ∷ contentsTest s ∷ []; slices = []; AreBytes = Bytes s };
+      brings = record { tests = λ c. snapshot.fileTests s; slices = []; AreBytes = Bytes s };
       numbers = 1;
       establishes = true;
       directly = λ b. replaces b (ofAnswer (snapshot.readSnapshot (b .chip) (b .vram) s)) (snapshot.readVram (b .vram) s);
@@ -162,7 +160,7 @@ described (Op.writeSnapshot s) =
     record {
       takes = vramAlone;
       testsState = true;
-      brings = record { tests = λ c. sizeTest s ∷ []; slices = s ∷ []; AreBytes = Unit {0} };
+      brings = record { tests = λ c. snapshot.outputTests s; slices = s ∷ []; AreBytes = Unit {0} };
       numbers = 1;
       establishes = false;
       directly = λ b. fills b (ofAnswer (snapshot.writeSnapshot (b .chip) (b .vram) s)) (snapshot.written (b .chip) (b .vram) s ∷ []);

@@ -21,8 +21,12 @@ noteAt r vram l = noteOf r (value (lineOf r l) vram)
 abbrev pub colours : List ℕ → List ℕ → ℕ → List ℕ
 colours r vram l = coloursOf r (value (lineOf r l) vram)
 
+-- The tests of what this call alone is given: the lent line, and the line number.
+abbrev pub drawLineOwnTests : List ℕ → ℕ → List Test
+drawLineOwnTests line l = sliceTest lineSize line ∷ lineTest l ∷ []
+
 abbrev pub drawLineTests : Chip → List ℕ → List ℕ → ℕ → List Test
-drawLineTests c vram line l = vramTest vram ∷ stateTest c ∷ sliceTest lineSize line ∷ lineTest l ∷ []
+drawLineTests c vram line l = vramTest vram ∷ stateTest c ∷ drawLineOwnTests line l
 
 abbrev pub drawLineRefusal : Chip → List ℕ → List ℕ → ℕ → Refusal
 drawLineRefusal c vram line l = refusalOf (drawLineTests c vram line l)

@@ -11,8 +11,12 @@ use Rattle.chip.specs.declared.refusal.Refusal.{Refusal}
 use Rattle.snapshot.specs.Format.{snapshotOf}
 use Rattle.snapshot.specs.Tests.{stateBytes, vramBytes, sizeTest, trailerTest, sumTest, contentsTest}
 
+-- The test of what writing alone is given, the list to write to.
+abbrev pub outputTests : List ℕ → List Test
+outputTests out = sizeTest out ∷ []
+
 abbrev pub writeTests : Chip → List ℕ → List ℕ → List Test
-writeTests c vram out = vramTest vram ∷ stateTest c ∷ sizeTest out ∷ []
+writeTests c vram out = vramTest vram ∷ stateTest c ∷ outputTests out
 
 abbrev pub writeRefusal : Chip → List ℕ → List ℕ → Refusal
 writeRefusal c vram out = refusalOf (writeTests c vram out)
@@ -24,9 +28,13 @@ writeSnapshot c vram out = answered (writeRefusal c vram out) c c 0
 abbrev pub written : Chip → List ℕ → List ℕ → List ℕ
 written c vram out = ifAccepted (writeRefusal c vram out) (snapshotOf c vram) out
 
+-- The tests of what reading alone is given, the snapshot.
+abbrev pub fileTests : List ℕ → List Test
+fileTests s = sizeTest s ∷ trailerTest s ∷ sumTest s ∷ contentsTest s ∷ []
+
 -- Reading does not test the state, which it replaces.
 abbrev pub readTests : List ℕ → List ℕ → List Test
-readTests vram s = vramTest vram ∷ sizeTest s ∷ trailerTest s ∷ sumTest s ∷ contentsTest s ∷ []
+readTests vram s = vramTest vram ∷ fileTests s
 
 abbrev pub readRefusal : List ℕ → List ℕ → Refusal
 readRefusal vram s = refusalOf (readTests vram s)
