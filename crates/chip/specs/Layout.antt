@@ -14,7 +14,7 @@ encoded c =
     c .registers
     ++ (c .address % 256 ∷ c .address / 256 ∷ c .buffer ∷ flagOf (c .waiting) ∷ byteOf (c .waiting) ∷ c .status ∷ [])
 
--- What bytes that encode no state decode to: no call takes it, since its address is too large.
+-- What bytes that encode no state decode to: no call that tests the state accepts it, since its address is too large.
 abbrev pub illFormedState : Chip
 illFormedState = withAddress 65535 powerUpState
 
