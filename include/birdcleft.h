@@ -1,9 +1,10 @@
 /* Birdcleft: a proved model of the TMS9918A video display processor. examples/host.c shows it in use.
  *
- * The caller owns every byte. Each call takes the chip's state as a lent block of 15 bytes and answers one
- * number: 256 times the refusal number, plus the byte read (0 if none; the interrupt line as 1 or 0; of a
- * refresh, how many lines it redrew). A refused call leaves the block and every slice as they were. Slices
- * of one call do not overlap, and no pointer is null, also where a length is 0. */
+ * The caller owns every byte. A call finds the chip's state in a block of 15 bytes and answers a number of two
+ * parts: its refusal number times 256, and below that what it has to tell: a byte that was read, 1 for an
+ * interrupt line that is on, the count of lines that a refresh redrew, and 0 otherwise. A call that is refused
+ * leaves block and slices as they were. Slices of one call do not overlap, and no pointer is null, also where a
+ * length is 0. */
 #ifndef BIRDCLEFT_H
 #define BIRDCLEFT_H
 
@@ -56,7 +57,7 @@ uint32_t vdp_power_up(uint8_t *block, size_t block_len, uint8_t *vram, size_t vr
 /* The ports. The address is 0 to 16,383 and steps from 16,383 to 0. A first control byte that waits is dropped by a
  * data write, a data read, a status read and reset; power-up and reading a snapshot replace the whole state. */
 
-/* A byte to the control port. With none waiting it waits, and nothing else changes. With a waiting, byte b
+/* A byte to the control port. With none waiting it waits, and nothing else changes. With byte a waiting, byte b
  * completes the pair: the address becomes (b mod 64) * 256 + a, also where a register is written. From hex 80 on
  * register b mod 8 takes a, less the bits that it does not keep; if that alters it the redraw mark is set. Below
  * hex 40 the read buffer takes VRAM at the address, which steps. */
@@ -103,7 +104,8 @@ uint32_t vdp_full_draw(uint8_t *block, size_t block_len, const uint8_t *vram, si
  * changes one of them itself, or draws into another frame with the same map, it begins a new chain. */
 uint32_t vdp_refresh(uint8_t *block, size_t block_len, const uint8_t *vram, size_t vram_len, uint8_t *map, size_t map_len, uint8_t *frame, size_t frame_len, uint8_t *notes, size_t notes_len);
 
-/* Reset: clears registers 0 and 1, status and the waiting byte, and sets the redraw mark. */
+/* Reset: registers 0 and 1 and status become 0, a first byte no longer waits, and the redraw mark is set. Registers 2
+ * to 7, address and read buffer stay. */
 uint32_t vdp_reset(uint8_t *block, size_t block_len);
 
 /* The snapshot: 16,384 bytes of VRAM; the block without its redraw mark, 14 bytes; and a trailer of eight bytes,

@@ -467,7 +467,7 @@ fn snapshot_goes_round() {
     lent.vram.fill(0xFF);
     assert_eq!(lent.read_snapshot(), 0);
     assert_eq!(lent.block[..14], block[..14]);
-    assert_eq!(lent.block[14], 1, "reading sets the mark");
+    assert_eq!(lent.block[14], 1, "reading sets the redraw mark");
     assert_eq!(lent.vram, vram);
 }
 

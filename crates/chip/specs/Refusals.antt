@@ -68,7 +68,7 @@ module _ {A : Type 0} where
   abbrev pub ifAccepted : Refusal → A → A → A
   ifAccepted r new old = cond (isAccepted r) new old
 
--- One number for a caller in C: 256 times the refusal number, plus the byte read.
+-- Both numbers of an answer as one, for a caller in C: the refusal's stands above the low byte, which is the number read.
 abbrev pub resultOf : Answer → ℕ
 resultOf a = numberOf (a .refusal) * 256 + a .value
 

@@ -50,7 +50,7 @@ obeys registers n = eqb (kept n (register n registers)) (register n registers)
 unfoldable pub masked : List ℕ → Bool
 masked registers = allBelow 8 (obeys registers)
 
--- A well-formed state obeys the masks and has an address of at most 16,383.
+-- Whether a state is well-formed: no register holds a bit outside its mask, and the address lies within VRAM.
 unfoldable pub wellFormed : Chip → Bool
 wellFormed c = masked (c .registers) && leb (c .address) 16383
 

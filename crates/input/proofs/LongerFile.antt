@@ -1,7 +1,8 @@
--- A file that is longer than a snapshot is refused.
+-- A full buffer is refused.
 --
--- Such a file fills the buffer, whatever its bytes are. The bytes that came in are then one too many for a snapshot, and
--- reading them into VRAM of the right length is refused for the snapshot's length.
+-- If as many bytes came in as the buffer holds, they are one too many for a snapshot, whatever they are, and reading them into
+-- VRAM of the right length is refused for the snapshot's length. That a file which is longer than a snapshot fills the buffer
+-- is what reading until it is full does; no contract of the C library says so.
 use Prim.Native.Nat.{ℕ}
 use native.Mathlib.Omega.{arith}
 use mathlib.Core.Path.{_≡_}

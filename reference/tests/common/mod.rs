@@ -35,7 +35,7 @@ impl Lent {
         lent
     }
 
-    /// The given registers, and mark and map clear.
+    /// The given registers, and redraw mark and map clear.
     pub fn with_registers(registers: [u8; 8]) -> Lent {
         let mut lent = Lent::new();
         lent.block[..8].copy_from_slice(&registers);
