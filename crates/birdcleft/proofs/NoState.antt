@@ -70,10 +70,11 @@ module _ (block : List ℕ) where
       ill-inner (leb (redrawIn block) 1) (waitingValid (flagIn block) (firstByteIn block)) (stateIn block (eqb (redrawIn block) 1))
       (byte-invalid (flagIn block) (firstByteIn block) z n)
 
--- A call that tests the state, and whose other tests, ts, pass, answers 3 as the refusal number.
+-- The result with refusal number 3.
 abbrev pub refused : ℕ
 refused = 3 * 256
 
+-- A call that tests the state, and whose other tests, ts, pass, refuses such a block.
 module _ (block : List ℕ) (unencoded : NoState block) where
   ill-formed : (ts : List Test) → AllPass ts → refusalOf (ts ++ (stateTest (chipOf block) ∷ [])) ≡ IllFormed
   ill-formed [] p = rw (no-state block unencoded)
