@@ -86,12 +86,8 @@ stepAt vram Status w = cond (drawable (w .chip) vram) (statusStep vram w) (write
 stepAt vram (Line l) w = cond (leb l 191 && drawable (w .chip) vram) (lineStep vram w l) (writesNothing w)
 stepAt vram End w = endStep w
 
--- The bytes that any piece has room in. Into a shorter output slice nothing is written, and nothing follows.
-abbrev pub room : ℕ
-room = 2048
-
-unfoldable pub stepOf : List ℕ → Walk → List ℕ → Step Walk
-stepOf vram w out = cond (leb room (length out)) (stepAt vram (w .next) w) (writesNothing w)
+unfoldable pub stepOf : List ℕ → Walk → Step Walk
+stepOf vram w = stepAt vram (w .next) w
 
 -- What the call answers of a step.
 abbrev pub pieceOf : Step Walk → Piece

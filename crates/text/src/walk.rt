@@ -191,14 +191,11 @@ fn refused_step(walk: Walk, number: u8, out: &mut [u8]) -> Piece
     }
 }
 
-// Writes the next piece at the front of an output slice of at least 2,048 bytes.
-pub fn step(walk: Walk, vram: &[u8; 16384], out: &mut [u8]) -> Piece
-    ensures { λ r. ⌜ r ≡ walks.pieceOf (walks.stepOf (now (vram .entry)) walk (now (out .entry))) ⌝ }
-    ensures { λ _. ⌜ now (out .exit) ≡ putAt 0 (walks.stepOf (now (vram .entry)) walk (now (out .entry)) .bytes) (now (out .entry)) ⌝ }
+// Writes the next piece at the front of the output, whose length by type any piece has room in: no program can lend a shorter one.
+pub fn step(walk: Walk, vram: &[u8; 16384], out: &mut [u8; 2048]) -> Piece
+    ensures { λ r. ⌜ r ≡ walks.pieceOf (walks.stepOf (now (vram .entry)) walk) ⌝ }
+    ensures { λ _. ⌜ now (out .exit) ≡ putAt 0 (walks.stepOf (now (vram .entry)) walk .bytes) (now (out .entry)) ⌝ }
 {
-    if out.len() < 2048 {
-        return nothing(walk);
-    }
     let chip = walk.chip;
     let next = walk.next;
     match next {

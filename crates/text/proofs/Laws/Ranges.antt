@@ -32,35 +32,35 @@ module _ (vram : List ℕ) (full : length vram ≡ 16384) (c : Chip) (ok : wellF
   can-draw = rw (eq-eqb (length vram) 16384 full) ok
 
   -- line l is next, n lines are left, and the range so far has k lines, first to last
-  pub ranges-written : (n l first last k : ℕ) (range : List ℕ) (slices : ℕ → List ℕ) → ((i : ℕ) → 2048 ≤ length (slices i)) → l + n ≡ 192 → first + k ≡ l → last + 1 ≡ l → stepsFrom (stepOf vram) (suc n) (walkAt c (nextAt l) first last range) slices ≡ wholly (rangesText first (runsAfter same k range (linesFrom f l n)))
+  pub ranges-written : (n l first last k : ℕ) (range : List ℕ) → l + n ≡ 192 → first + k ≡ l → last + 1 ≡ l → stepsFrom (stepOf vram) (suc n) (walkAt c (nextAt l) first last range) ≡ wholly (rangesText first (runsAfter same k range (linesFrom f l n)))
   unfolding linesFrom rangesText runsAfter lineStep
-  ranges-written zero l first last k range slices fits e ek el =
+  ranges-written zero l first last k range e ek el =
       let w : Walk = walkAt c (nextAt l) first last range in
       let over : nextAt l ≡ End = ap (λ (b : Bool). cond b (Line l) End) (le-ltb l 192 (omega arith)) in
       let upto : last ≡ first + k - 1 = omega arith in
-      last-step (stepOf vram) 0 w slices (step-end vram w (slices 0) (fits 0) over) refl
+      last-step (stepOf vram) 0 w (step-end vram w over) refl
       ∙ ap wholly (ap (λ (b : ℕ). rangeText first b range) upto ∙ sym (append-nil (rangeText first (first + k - 1) range)))
-  ranges-written (suc n) l first last k range slices fits e ek el =
+  ranges-written (suc n) l first last k range e ek el =
       by (same range (f l)) refl
-      (ranges-written n (l + 1) first l (k + 1) range (λ i. slices (suc i)) (λ i. fits (suc i)) (omega arith) (omega arith) refl)
-      (ranges-written n (l + 1) l l 1 (f l) (λ i. slices (suc i)) (λ i. fits (suc i)) (omega arith) refl refl)
+      (ranges-written n (l + 1) first l (k + 1) range (omega arith) (omega arith) refl)
+      (ranges-written n (l + 1) l l 1 (f l) (omega arith) refl refl)
     where
       line : nextAt l ≡ Line l
       line = ap (λ (b : Bool). cond b (Line l) End) (lt-ltb l 192 (omega arith))
 
-      is : (b : Bool) → same range (f l) ≡ b → stepOf vram (walkAt c (nextAt l) first last range) (slices 0) ≡ lineStepBy b (walkAt c (nextAt l) first last range) l (f l)
+      is : (b : Bool) → same range (f l) ≡ b → stepOf vram (walkAt c (nextAt l) first last range) ≡ lineStepBy b (walkAt c (nextAt l) first last range) l (f l)
       is b t =
-          step-line vram (walkAt c (nextAt l) first last range) (slices 0) (fits 0) line (omega arith) can-draw
+          step-line vram (walkAt c (nextAt l) first last range) line (omega arith) can-draw
           ∙ ap (λ (d : Bool). lineStepBy d (walkAt c (nextAt l) first last range) l (f l)) t
 
       by : (b : Bool) → same range (f l) ≡ b
-          → stepsFrom (stepOf vram) (suc n) (walkAt c (nextAt (l + 1)) first l range) (λ i. slices (suc i)) ≡ wholly (rangesText first (runsAfter same (k + 1) range (linesFrom f (l + 1) n)))
-          → stepsFrom (stepOf vram) (suc n) (walkAt c (nextAt (l + 1)) l l (f l)) (λ i. slices (suc i)) ≡ wholly (rangesText l (runsAfter same 1 (f l) (linesFrom f (l + 1) n)))
-          → stepsFrom (stepOf vram) (suc (suc n)) (walkAt c (nextAt l) first last range) slices ≡ wholly (rangesText first (runsAfter same k range (f l ∷ linesFrom f (l + 1) n)))
+          → stepsFrom (stepOf vram) (suc n) (walkAt c (nextAt (l + 1)) first l range) ≡ wholly (rangesText first (runsAfter same (k + 1) range (linesFrom f (l + 1) n)))
+          → stepsFrom (stepOf vram) (suc n) (walkAt c (nextAt (l + 1)) l l (f l)) ≡ wholly (rangesText l (runsAfter same 1 (f l) (linesFrom f (l + 1) n)))
+          → stepsFrom (stepOf vram) (suc (suc n)) (walkAt c (nextAt l) first last range) ≡ wholly (rangesText first (runsAfter same k range (f l ∷ linesFrom f (l + 1) n)))
       by true t on over =
-          more-steps (stepOf vram) (suc n) (walkAt c (nextAt l) first last range) slices (is true t) refl on
+          more-steps (stepOf vram) (suc n) (walkAt c (nextAt l) first last range) (is true t) refl on
           ∙ rw t refl
       by false t on over =
           let upto : first + k - 1 ≡ last = omega arith in
-          more-steps (stepOf vram) (suc n) (walkAt c (nextAt l) first last range) slices (is false t) refl over
+          more-steps (stepOf vram) (suc n) (walkAt c (nextAt l) first last range) (is false t) refl over
           ∙ rw (t, upto, ek) refl
