@@ -3,7 +3,7 @@
 -- Take any file: any list of bytes that came in. Read it by `start` into VRAM of 16,384 bytes, whatever these hold, and step
 -- from there until a piece is the last. Then at most 193 steps write the last piece, and what they wrote, end to end, is
 -- `pictureOutput` of the file.
-use Prim.Native.Nat.{ℕ, zero, suc, _+_, _≤_}
+use Prim.Native.Nat.{ℕ, zero, suc, _+_}
 use native.Mathlib.Numerals.{add-one}
 use native.Mathlib.Omega.{arith}
 use mathlib.Core.Path.{_≡_, refl, sym, ap, _∙_}

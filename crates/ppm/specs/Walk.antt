@@ -1,8 +1,8 @@
 -- The walk over the output: where it starts, and what each step writes.
 use Prim.Native.Nat.{ℕ, _+_, _-_}
-use mathlib.Core.Bool.{true, false, cond}
+use mathlib.Core.Bool.{true, false}
 use mathlib.Core.List.{List, []}
-use lib.Dec.{eqb, leb}
+use lib.Dec.{eqb}
 use lib.ListN.{length, replicate}
 use Rattle.chip.specs.State.{powerUpState}
 use Rattle.chip.specs.Refusals.{numberOf, ifAccepted}

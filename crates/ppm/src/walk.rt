@@ -8,7 +8,7 @@ ghost use Rattle.ppm.specs.Walk.{startWalk, pieceOf, writesNothing, line
 use crate::paint::paint;
 use chip::Chip;
 
-// What is written next: the line that tells a refusal, the header, or a line of the picture.
+// What is written next: the line of a refusal, the header, or a line of the picture.
 enum Next {
     Refused(u8),
     Header,

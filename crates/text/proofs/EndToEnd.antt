@@ -3,7 +3,7 @@
 -- Take any file: any list of bytes that came in. Read it by `start` into VRAM of 16,384 bytes, whatever these hold, and step
 -- from there until a piece is the last. Then at most 193 steps write the last piece, and what they wrote, end to end, is
 -- `showOutput` of the file.
-use Prim.Native.Nat.{ℕ, suc, _≤_}
+use Prim.Native.Nat.{ℕ}
 use mathlib.Core.Path.{_≡_, refl, ap}
 use mathlib.Core.Bool.{Bool, true, cond}
 use mathlib.Core.List.{List}
@@ -36,7 +36,7 @@ text-written vram full c ok range =
 pub end-to-end : (file vram : List ℕ) → length vram ≡ 16384
     → stepsFrom (stepOf (readVram vram file)) 193 (startWalk vram file) ≡ record { bytes = showOutput file; whole = true }
 end-to-end file vram full =
-    from-file stepOf (λ r c. walkAt c (firstNext (numberOf r)) 0 0 (replicate 256 0)) showText 192
+    from-file stepOf (λ r c. walkAt c (firstNext r) 0 0 (replicate 256 0)) showText 192
     (λ v whole c ok. text-written v whole c ok (replicate 256 0))
     (λ v r c e. step-refused v _ (ap (λ (b : Bool). cond b Status (Refused (numberOf r))) e))
     file vram full

@@ -1,12 +1,12 @@
 -- What a step does, by what is next.
-use Prim.Native.Nat.{ℕ, _+_, _≤_, _<_}
+use Prim.Native.Nat.{ℕ, _+_, _≤_}
 use native.Mathlib.Omega.{arith}
 use mathlib.Core.Path.{_≡_, refl, ap, _∙_}
 use mathlib.Core.Bool.{Bool, true, cond}
 use mathlib.Core.List.{List, [], _∷_}
 use lib.Dec.{eqb}
 use lib.ListN.{length, replicate, length-replicate}
-use borrow.Author.Tests.{eq-eqb, ne-eqb, le-leb, lt-leb, leb-true}
+use borrow.Author.Tests.{eq-eqb, ne-eqb, le-leb, leb-true}
 use Rattle.chip.specs.State.{wellFormed}
 use Rattle.chip.specs.Refusals.{Test, numberOf, isAccepted, vramTest, sliceTest, stateTest, lineTest}
 use Rattle.chip.specs.declared.state.Chip.{Chip}
