@@ -1,9 +1,9 @@
 -- The pieces that the steps write, put end to end, are the whole output.
 --
 -- Take any file: any list of bytes that came in. Read it by `start` into VRAM of 16,384 bytes, whatever these hold, and step
--- from there until a piece is the last, each step lent any output slice of at least 768 bytes. Then at most 193 steps write
--- the last piece, and what they wrote, end to end, is `pictureOutput` of the file.
-use Prim.Native.Nat.{ℕ, zero, suc, _+_, _≤_}
+-- from there until a piece is the last. Then at most 193 steps write the last piece, and what they wrote, end to end, is
+-- `pictureOutput` of the file.
+use Prim.Native.Nat.{ℕ, zero, suc, _+_}
 use native.Mathlib.Numerals.{add-one}
 use native.Mathlib.Omega.{arith}
 use mathlib.Core.Path.{_≡_, refl, sym, ap, _∙_}
@@ -26,7 +26,7 @@ use Rattle.ppm.specs.declared.walk.Walk.{Walk}
 use Rattle.ppm.specs.Picture.{painted, pictureOf, pictureOutput}
 use Rattle.ppm.specs.Walk.{firstNext, startWalk, stepOf}
 use Rattle.ppm.proofs.Laws.Paint.{painted-append}
-use Rattle.ppm.proofs.Laws.Steps.{step-fits, writesLine, line-accepted}
+use Rattle.ppm.proofs.Laws.Steps.{step-by, writesLine, line-accepted}
 
 abbrev walkAt : Next → Chip → Walk
 walkAt next c = record { next = next; chip = c }
@@ -56,31 +56,30 @@ module _ (vram : List ℕ) (full : length vram ≡ 16384) (c : Chip) (ok : wellF
   lines = colours (c .registers) vram
 
   -- from line l on, the steps write the pixels of what is left of the 192 lines
-  lines-written : (k l : ℕ) → l + suc k ≡ 192 → (slices : ℕ → List ℕ) → ((i : ℕ) → 768 ≤ length (slices i)) → stepsFrom (stepOf vram) (suc k) (walkAt (Line l) c) slices ≡ wholly (pixelsFrom lines l (suc k))
+  lines-written : (k l : ℕ) → l + suc k ≡ 192 → stepsFrom (stepOf vram) (suc k) (walkAt (Line l) c) ≡ wholly (pixelsFrom lines l (suc k))
   unfolding pixelsFrom
-  lines-written zero l h slices fits =
+  lines-written zero l h =
       let w : Walk = walkAt (Line l) c in
-      let e : stepOf vram w (slices 0) ≡ writesLine vram w l = step-fits vram w (slices 0) (fits 0) refl ∙ line-accepted vram w l full ok (omega arith) in
-      last-step (stepOf vram) 0 w slices e (eq-eqb l 191 (omega arith)) ∙ ap wholly (sym (append-nil (painted (lines l))))
-  lines-written (suc k) l h slices fits =
+      let e : stepOf vram w ≡ writesLine vram w l = step-by vram w refl ∙ line-accepted vram w l full ok (omega arith) in
+      last-step (stepOf vram) 0 w e (eq-eqb l 191 (omega arith)) ∙ ap wholly (sym (append-nil (painted (lines l))))
+  lines-written (suc k) l h =
       let w : Walk = walkAt (Line l) c in
-      let e : stepOf vram w (slices 0) ≡ writesLine vram w l = step-fits vram w (slices 0) (fits 0) refl ∙ line-accepted vram w l full ok (omega arith) in
-      more-steps (stepOf vram) (suc k) w slices e (ne-eqb l 191 (λ is. omega arith)) (lines-written k (l + 1) (omega arith) (λ i. slices (suc i)) (λ i. fits (suc i)))
+      let e : stepOf vram w ≡ writesLine vram w l = step-by vram w refl ∙ line-accepted vram w l full ok (omega arith) in
+      more-steps (stepOf vram) (suc k) w e (ne-eqb l 191 (λ is. omega arith)) (lines-written k (l + 1) (omega arith))
 
   -- from the header on, they write the picture
-  picture-written : (slices : ℕ → List ℕ) → ((i : ℕ) → 768 ≤ length (slices i)) → stepsFrom (stepOf vram) 193 (walkAt Header c) slices ≡ wholly (pictureOf c vram)
+  picture-written : stepsFrom (stepOf vram) 193 (walkAt Header c) ≡ wholly (pictureOf c vram)
   unfolding pictureOf
-  picture-written slices fits =
+  picture-written =
       let w : Walk = walkAt Header c in
       let all : pixelsFrom lines 0 192 ≡ painted (endToEnd 192 lines) = sym (no-line lines (pixelsFrom lines 0 192)) ∙ pixels-are lines 192 0 in
-      more-steps (stepOf vram) 192 w slices (step-fits vram w (slices 0) (fits 0) refl) refl
-      (lines-written 191 0 refl (λ i. slices (suc i)) (λ i. fits (suc i)) ∙ ap wholly all)
+      more-steps (stepOf vram) 192 w (step-by vram w refl) refl
+      (lines-written 191 0 refl ∙ ap wholly all)
 
 pub end-to-end : (file vram : List ℕ) → length vram ≡ 16384
-    → (slices : ℕ → List ℕ) → ((k : ℕ) → 768 ≤ length (slices k))
-    → stepsFrom (stepOf (readVram vram file)) 193 (startWalk vram file) slices ≡ record { bytes = pictureOutput file; whole = true }
-end-to-end file vram full slices fits =
-    from-file stepOf (λ r c. walkAt (firstNext r) c) pictureOf 192 slices
-    (λ v whole c ok. picture-written v whole c ok slices fits)
-    (λ v r c e. step-fits v _ (slices 0) (fits 0) (ap (λ (b : Bool). cond b Header (Refused (numberOf r))) e))
+    → stepsFrom (stepOf (readVram vram file)) 193 (startWalk vram file) ≡ record { bytes = pictureOutput file; whole = true }
+end-to-end file vram full =
+    from-file stepOf (λ r c. walkAt (firstNext r) c) pictureOf 192
+    picture-written
+    (λ v r c e. step-by v _ (ap (λ (b : Bool). cond b Header (Refused (numberOf r))) e))
     file vram full

@@ -1,8 +1,8 @@
 -- The walk over the output: where it starts, and what each step writes.
 use Prim.Native.Nat.{ℕ, _+_, _-_}
-use mathlib.Core.Bool.{true, false, cond}
+use mathlib.Core.Bool.{true, false}
 use mathlib.Core.List.{List, []}
-use lib.Dec.{eqb, leb}
+use lib.Dec.{eqb}
 use lib.ListN.{length, replicate}
 use Rattle.chip.specs.State.{powerUpState}
 use Rattle.chip.specs.Refusals.{numberOf, ifAccepted}
@@ -50,12 +50,8 @@ stepAt vram (Refused n) w = record { bytes = refusedText n; walk = w; last = tru
 stepAt vram Header w = record { bytes = header; walk = going w (Line 0); last = false }
 stepAt vram (Line l) w = lineStep vram w l
 
--- The bytes that any piece has room in. Into a shorter output slice nothing is written, and nothing follows.
-abbrev pub room : ℕ
-room = 768
-
-unfoldable pub stepOf : List ℕ → Walk → List ℕ → Step Walk
-stepOf vram w out = cond (leb room (length out)) (stepAt vram (w .next) w) (writesNothing w)
+unfoldable pub stepOf : List ℕ → Walk → Step Walk
+stepOf vram w = stepAt vram (w .next) w
 
 -- How many steps are left at most.
 abbrev pub leftFrom : Next → ℕ

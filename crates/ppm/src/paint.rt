@@ -4,7 +4,7 @@ ghost use mathlib.Core.Path.{_≡_};
 ghost use lib.ListN.{length};
 ghost use Rattle.chip.specs.Lists.{putAt};
 ghost use Rattle.ppm.specs.Picture.{painted};
-use crate::palette::pixel_of;
+use crate::palette::rgb_of;
 
 // The pixels of colours, at the front of a slice.
 pub fn paint(colours: &[u8], out: &mut [u8])
@@ -13,7 +13,7 @@ pub fn paint(colours: &[u8], out: &mut [u8])
 {
     let mut x = 0;
     while x < colours.len() {
-        let pixel = pixel_of(colours[x]);
+        let pixel = rgb_of(colours[x]);
         out[3 * x] = pixel[0];
         out[3 * x + 1] = pixel[1];
         out[3 * x + 2] = pixel[2];

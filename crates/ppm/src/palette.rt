@@ -59,9 +59,9 @@ const BLUE: [u8; 16] = [
     255,
 ];
 
-pub type Pixel = [u8; 3];
+pub type Rgb = [u8; 3];
 
-pub fn pixel_of(colour: u8) -> Pixel
+pub fn rgb_of(colour: u8) -> Rgb
     ensures { λ r. ⌜ r ≡ rgbOf colour ⌝ }
 {
     let c = (colour % 16) as usize;

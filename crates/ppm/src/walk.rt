@@ -8,7 +8,7 @@ ghost use Rattle.ppm.specs.Walk.{startWalk, pieceOf, writesNothing, line
 use crate::paint::paint;
 use chip::Chip;
 
-// What is written next: the line that tells a refusal, the header, or a line of the picture.
+// What is written next: the line of a refusal, the header, or a line of the picture.
 enum Next {
     Refused(u8),
     Header,
@@ -85,14 +85,11 @@ fn put_line(walk: Walk, l: u8, vram: &[u8; 16384], out: &mut [u8]) -> Piece
     }
 }
 
-// Writes the next piece at the front of a slice of at least 768 bytes.
-pub fn step(walk: Walk, vram: &[u8; 16384], out: &mut [u8]) -> Piece
-    ensures { λ r. ⌜ r ≡ pieceOf (stepOf (now (vram .entry)) walk (now (out .entry))) ⌝ }
-    ensures { λ _. ⌜ now (out .exit) ≡ putAt 0 (stepOf (now (vram .entry)) walk (now (out .entry)) .bytes) (now (out .entry)) ⌝ }
+// Writes the next piece at the front of the output, whose length by type any piece has room in: no program can lend a shorter one.
+pub fn step(walk: Walk, vram: &[u8; 16384], out: &mut [u8; 768]) -> Piece
+    ensures { λ r. ⌜ r ≡ pieceOf (stepOf (now (vram .entry)) walk) ⌝ }
+    ensures { λ _. ⌜ now (out .exit) ≡ putAt 0 (stepOf (now (vram .entry)) walk .bytes) (now (out .entry)) ⌝ }
 {
-    if out.len() < 768 {
-        return nothing(walk);
-    }
     let chip = walk.chip;
     let next = walk.next;
     match next {

@@ -1,9 +1,9 @@
 -- The pieces that the steps write, put end to end, are the whole output.
 --
 -- Take any file: any list of bytes that came in. Read it by `start` into VRAM of 16,384 bytes, whatever these hold, and step
--- from there until a piece is the last, each step lent any output slice of at least 2,048 bytes. Then at most 193 steps
--- write the last piece, and what they wrote, end to end, is `showOutput` of the file.
-use Prim.Native.Nat.{ℕ, suc, _≤_}
+-- from there until a piece is the last. Then at most 193 steps write the last piece, and what they wrote, end to end, is
+-- `showOutput` of the file.
+use Prim.Native.Nat.{ℕ}
 use mathlib.Core.Path.{_≡_, refl, ap}
 use mathlib.Core.Bool.{Bool, true, cond}
 use mathlib.Core.List.{List}
@@ -26,18 +26,17 @@ use Rattle.text.proofs.Laws.Ranges.{walkAt, can-draw, ranges-written}
 use Rattle.text.proofs.Laws.Reading.{from-file}
 
 -- from the status line on, the steps write the text of state and VRAM
-text-written : (vram : List ℕ) → length vram ≡ 16384 → (c : Chip) → wellFormed c ≡ true → (range : List ℕ) (slices : ℕ → List ℕ) → ((k : ℕ) → 2048 ≤ length (slices k)) → stepsFrom (stepOf vram) 193 (walkAt c Status 0 0 range) slices ≡ wholly (showText c vram)
+text-written : (vram : List ℕ) → length vram ≡ 16384 → (c : Chip) → wellFormed c ≡ true → (range : List ℕ) → stepsFrom (stepOf vram) 193 (walkAt c Status 0 0 range) ≡ wholly (showText c vram)
 unfolding showText runs linesFrom
-text-written vram full c ok range slices fits =
+text-written vram full c ok range =
     let w : Walk = walkAt c Status 0 0 range in
-    more-steps (stepOf vram) 192 w slices (step-status vram w (slices 0) (fits 0) refl (can-draw vram full c ok)) refl
-    (ranges-written vram full c ok 191 1 0 0 1 (colours (c .registers) vram 0) (λ k. slices (suc k)) (λ k. fits (suc k)) refl refl refl)
+    more-steps (stepOf vram) 192 w (step-status vram w refl (can-draw vram full c ok)) refl
+    (ranges-written vram full c ok 191 1 0 0 1 (colours (c .registers) vram 0) refl refl refl)
 
 pub end-to-end : (file vram : List ℕ) → length vram ≡ 16384
-    → (slices : ℕ → List ℕ) → ((k : ℕ) → 2048 ≤ length (slices k))
-    → stepsFrom (stepOf (readVram vram file)) 193 (startWalk vram file) slices ≡ record { bytes = showOutput file; whole = true }
-end-to-end file vram full slices fits =
-    from-file stepOf (λ r c. walkAt c (firstNext (numberOf r)) 0 0 (replicate 256 0)) showText 192 slices
-    (λ v whole c ok. text-written v whole c ok (replicate 256 0) slices fits)
-    (λ v r c e. step-refused v _ (slices 0) (fits 0) (ap (λ (b : Bool). cond b Status (Refused (numberOf r))) e))
+    → stepsFrom (stepOf (readVram vram file)) 193 (startWalk vram file) ≡ record { bytes = showOutput file; whole = true }
+end-to-end file vram full =
+    from-file stepOf (λ r c. walkAt c (firstNext r) 0 0 (replicate 256 0)) showText 192
+    (λ v whole c ok. text-written v whole c ok (replicate 256 0))
+    (λ v r c e. step-refused v _ (ap (λ (b : Bool). cond b Status (Refused (numberOf r))) e))
     file vram full

@@ -1,7 +1,7 @@
 -- The text shows what a full draw draws.
 --
 -- Take any well-formed state, any 16,384 bytes of VRAM, and slices for map, frame and notes of the right lengths, whatever
--- they hold. The status after, which the text tells, is that of the state which a full draw hands back, and the lines, which
+-- they hold. The status after, in the text, is that of the state which a full draw hands back, and the lines, which
 -- it joins into ranges, are those of the frame which the full draw leaves.
 use Prim.Native.Nat.{ℕ, zero, suc, _+_, _≤_, _<_}
 use native.Mathlib.Omega.{arith}

@@ -1,4 +1,4 @@
--- What the line of a refusal writes.
+-- What `refusal_line` writes.
 use Prim.Native.Nat.{ℕ}
 use mathlib.Core.Bool.{cond}
 use mathlib.Core.List.{List, []}

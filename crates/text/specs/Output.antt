@@ -9,8 +9,8 @@ use Rattle.snapshot.specs.Calls.{readRefusal, readSnapshot, readVram}
 use Rattle.text.specs.Lines.{refusedText}
 use Rattle.text.specs.Show.{showText}
 
--- The file is read from the power-up state into cleared VRAM. If that is refused, the refusal is told. Otherwise state and
--- VRAM are shown, in a way that is given.
+-- The file is read from the power-up state into cleared VRAM. If that is refused, the line of the refusal is written.
+-- Otherwise state and VRAM are shown, in a way that is given.
 unfoldable pub outputOf : (Chip → List ℕ → List ℕ) → List ℕ → List ℕ
 outputOf shown file =
     ifAccepted (readRefusal clearedVram file)

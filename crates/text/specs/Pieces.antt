@@ -19,7 +19,7 @@ module _ {W : Type 0} where
   abbrev pub ahead : Step W → Output → Output
   ahead s rest = record { bytes = s .bytes ++ cond (s .last) [] (rest .bytes); whole = cond (s .last) true (rest .whole) }
 
-  -- The steps from a walk on until the last piece, and at most n of them. Step k is lent the output slice `slices k`.
-  unfoldable pub stepsFrom : (W → List ℕ → Step W) → ℕ → W → (ℕ → List ℕ) → Output
-  stepsFrom step zero w slices = record { bytes = []; whole = false }
-  stepsFrom step (suc n) w slices = ahead (step w (slices 0)) (stepsFrom step n (step w (slices 0) .walk) (λ k. slices (suc k)))
+  -- The steps from a walk on until the last piece, and at most n of them.
+  unfoldable pub stepsFrom : (W → Step W) → ℕ → W → Output
+  stepsFrom step zero w = record { bytes = []; whole = false }
+  stepsFrom step (suc n) w = ahead (step w) (stepsFrom step n (step w .walk))

@@ -5,8 +5,9 @@ use mathlib.Core.List.{List, []}
 use lib.Dec.{eqb, leb, ltb}
 use lib.ListN.{length, replicate}
 use Rattle.chip.specs.State.{vramSize, wellFormed, powerUpState}
-use Rattle.chip.specs.Refusals.{numberOf}
+use Rattle.chip.specs.Refusals.{numberOf, ifAccepted}
 use Rattle.chip.specs.declared.state.Chip.{Chip}
+use Rattle.chip.specs.declared.refusal.Refusal.{Refusal}
 use Rattle.snapshot.specs.Calls.{readRefusal, readSnapshot}
 use Rattle.scanline.specs.Calls.{colours}
 use Rattle.frame.specs.Lines.{lineCount}
@@ -19,32 +20,32 @@ use Rattle.text.specs.declared.walk.Next.the-variants.{Refused, Status, 
 use Rattle.text.specs.declared.walk.Walk.{Walk}
 use Rattle.text.specs.declared.walk.Piece.{Piece}
 
--- What is first, by the number of the file's refusal.
-abbrev pub firstNext : ℕ → Next
-firstNext number = cond (eqb number 0) Status (Refused number)
+-- What is first, by how reading the file was answered.
+abbrev pub firstNext : Refusal → Next
+firstNext r = ifAccepted r Status (Refused (numberOf r))
 
 -- The file is read from the power-up state into VRAM. (What VRAM then holds: see `readVram`.)
 abbrev pub startWalk : List ℕ → List ℕ → Walk
 startWalk vram file =
     record {
-      next = firstNext (numberOf (readRefusal vram file));
+      next = firstNext (readRefusal vram file);
       chip = readSnapshot powerUpState vram file .chip;
-      first = 0;
-      last = 0;
-      range = replicate 256 0;
+      from = 0;
+      to = 0;
+      colours = replicate 256 0;
     }
 
 -- Nothing is written, and nothing follows.
 abbrev pub writesNothing : Walk → Step Walk
 writesNothing w = record { bytes = []; walk = w; last = true }
 
--- The line that tells a refusal.
+-- The line of a refusal.
 abbrev pub refusedStep : Walk → ℕ → Step Walk
 refusedStep w n = record { bytes = refusedText n; walk = w; last = true }
 
 -- The walk with another piece next, and another range so far.
 abbrev pub going : Walk → Next → ℕ → ℕ → List ℕ → Walk
-going w next first last range = record { next = next; chip = w .chip; first = first; last = last; range = range }
+going w next from to each = record { next = next; chip = w .chip; from = from; to = to; colours = each }
 
 -- The status line. Line 0 is then the range so far.
 abbrev pub statusStep : List ℕ → Walk → Step Walk
@@ -57,7 +58,7 @@ statusStep vram w =
 
 -- The text of the range so far.
 abbrev pub rangeSoFar : Walk → List ℕ
-rangeSoFar w = rangeText (w .first) (w .last) (w .range)
+rangeSoFar w = rangeText (w .from) (w .to) (w .colours)
 
 -- Line l, or the end where there is no such line.
 abbrev pub nextAt : ℕ → Next
@@ -65,11 +66,11 @@ nextAt l = cond (ltb l lineCount) (Line l) End
 
 -- Line l goes on with the range so far, or it starts the next, and the text of the range so far is written.
 abbrev pub lineStepBy : Bool → Walk → ℕ → List ℕ → Step Walk
-lineStepBy true w l line = record { bytes = []; walk = going w (nextAt (l + 1)) (w .first) l (w .range); last = false }
+lineStepBy true w l line = record { bytes = []; walk = going w (nextAt (l + 1)) (w .from) l (w .colours); last = false }
 lineStepBy false w l line = record { bytes = rangeSoFar w; walk = going w (nextAt (l + 1)) l l line; last = false }
 
 unfoldable pub lineStep : List ℕ → Walk → ℕ → Step Walk
-lineStep vram w l = lineStepBy (same (w .range) (colours (w .chip .registers) vram l)) w l (colours (w .chip .registers) vram l)
+lineStep vram w l = lineStepBy (same (w .colours) (colours (w .chip .registers) vram l)) w l (colours (w .chip .registers) vram l)
 
 -- The text of the last range.
 abbrev pub endStep : Walk → Step Walk
@@ -86,12 +87,8 @@ stepAt vram Status w = cond (drawable (w .chip) vram) (statusStep vram w) (write
 stepAt vram (Line l) w = cond (leb l 191 && drawable (w .chip) vram) (lineStep vram w l) (writesNothing w)
 stepAt vram End w = endStep w
 
--- The bytes that any piece has room in. Into a shorter output slice nothing is written, and nothing follows.
-abbrev pub room : ℕ
-room = 2048
-
-unfoldable pub stepOf : List ℕ → Walk → List ℕ → Step Walk
-stepOf vram w out = cond (leb room (length out)) (stepAt vram (w .next) w) (writesNothing w)
+unfoldable pub stepOf : List ℕ → Walk → Step Walk
+stepOf vram w = stepAt vram (w .next) w
 
 -- What the call answers of a step.
 abbrev pub pieceOf : Step Walk → Piece

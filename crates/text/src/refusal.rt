@@ -1,4 +1,4 @@
-// The line that tells a refusal.
+// The line of a refusal.
 ghost use mathlib.Core.Path.{_≡_};
 ghost use Prim.Native.Nat.{_≤_};
 ghost use lib.ListN.{length};

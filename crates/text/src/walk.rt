@@ -13,9 +13,10 @@ use crate::refusal::put_refused;
 use crate::status::put_status;
 use crate::status::status_drawn;
 use chip::Chip;
+use chip::Refusal;
 use scanline::draw_row;
 
-// What is next: the line that tells a refusal, the status line, a line of the picture, or the last range.
+// What is next: the line of a refusal, the status line, a line of the picture, or the last range.
 enum Next {
     Refused(u8),
     Status,
@@ -23,13 +24,13 @@ enum Next {
     End,
 }
 
-// What is next, the state that the file holds, and the range so far: lines `first` to `last`, each with the colours of `range`.
+// What is next, the state that the file holds, and the range so far: lines `from` to `to`, each with these colours.
 pub struct Walk {
     next: Next,
     chip: Chip,
-    first: u8,
-    last: u8,
-    range: [u8; 256],
+    from: u8,
+    to: u8,
+    colours: [u8; 256],
 }
 
 // The walk after a step, how many bytes the step wrote, and whether they are the last.
@@ -39,16 +40,16 @@ pub struct Piece {
     pub last: bool,
 }
 
-// What is first, by the number of the file's refusal.
-fn first_next(number: u32) -> Next
-    requires { ⌜ number < 256 ⌝ }
-    ensures { λ n. ⌜ n ≡ walks.firstNext number ⌝ }
+// What is first, by how reading the file was answered.
+fn first_next(refusal: Refusal) -> Next
+    ensures { λ n. ⌜ n ≡ walks.firstNext refusal ⌝ }
 {
+    let number = refusal.number();
     if number == 0 {
-        Next::Status
-    } else {
-        Next::Refused(number as u8)
+        return Next::Status;
     }
+    let refused = number as u8;
+    Next::Refused(refused)
 }
 
 // Reads the file as a snapshot into VRAM, which has its length by type: no program can lend another.
@@ -58,15 +59,15 @@ pub fn start(file: &[u8], vram: &mut [u8; 16384]) -> Walk
 {
     let answer = snapshot::read(Chip::power_up_state(), vram, file);
     let refusal = answer.refusal;
-    let next = first_next(refusal.number());
+    let next = first_next(refusal);
     let chip = answer.chip;
-    let range = [0u8; 256];
+    let colours = [0u8; 256];
     Walk {
         next: next,
         chip: chip,
-        first: 0,
-        last: 0,
-        range: range,
+        from: 0,
+        to: 0,
+        colours: colours,
     }
 }
 
@@ -103,19 +104,19 @@ fn status_step(walk: Walk, vram: &[u8], out: &mut [u8]) -> Piece
 {
     let chip = walk.chip;
     let registers = chip.registers;
-    let after = status_drawn(registers, vram, chip.status);
-    let end_of_status = put_status(out, chip.status, after);
-    let mut range = [0u8; 256];
-    draw_row(registers, vram, 0, &mut range);
-    let next = Walk {
+    let status = status_drawn(registers, vram, chip.status);
+    let end_of_status = put_status(out, chip.status, status);
+    let mut colours = [0u8; 256];
+    draw_row(registers, vram, 0, &mut colours);
+    let after = Walk {
         next: Next::Line(1),
         chip: chip,
-        first: 0,
-        last: 0,
-        range: range,
+        from: 0,
+        to: 0,
+        colours: colours,
     };
     Piece {
-        walk: next,
+        walk: after,
         written: end_of_status,
         last: false,
     }
@@ -129,34 +130,34 @@ fn line_step(walk: Walk, l: u8, vram: &[u8], out: &mut [u8]) -> Piece
 {
     let chip = walk.chip;
     let registers = chip.registers;
-    let range = walk.range;
+    let colours = walk.colours;
     let mut line = [0u8; 256];
     draw_row(registers, vram, l, &mut line);
-    let after = next_at(l + 1);
-    if same(&range, &line) {
-        let next = Walk {
-            next: after,
+    let next = next_at(l + 1);
+    if same(&colours, &line) {
+        let after = Walk {
+            next: next,
             chip: chip,
-            first: walk.first,
-            last: l,
-            range: range,
+            from: walk.from,
+            to: l,
+            colours: colours,
         };
         return Piece {
-            walk: next,
+            walk: after,
             written: 0,
             last: false,
         };
     }
-    let end_of_range = put_range(out, walk.first, walk.last, &range);
-    let next = Walk {
-        next: after,
+    let end_of_range = put_range(out, walk.from, walk.to, &colours);
+    let after = Walk {
+        next: next,
         chip: chip,
-        first: l,
-        last: l,
-        range: line,
+        from: l,
+        to: l,
+        colours: line,
     };
     Piece {
-        walk: next,
+        walk: after,
         written: end_of_range,
         last: false,
     }
@@ -168,8 +169,8 @@ fn end_step(walk: Walk, out: &mut [u8]) -> Piece
     ensures { λ r. ⌜ r ≡ walks.pieceOf (walks.endStep walk) ⌝ }
     ensures { λ _. ⌜ now (out .exit) ≡ putAt 0 (walks.endStep walk .bytes) (now (out .entry)) ⌝ }
 {
-    let range = walk.range;
-    let end_of_last = put_range(out, walk.first, walk.last, &range);
+    let colours = walk.colours;
+    let end_of_last = put_range(out, walk.from, walk.to, &colours);
     Piece {
         walk: walk,
         written: end_of_last,
@@ -177,7 +178,7 @@ fn end_step(walk: Walk, out: &mut [u8]) -> Piece
     }
 }
 
-// The line that tells a refusal.
+// The line of a refusal.
 fn refused_step(walk: Walk, number: u8, out: &mut [u8]) -> Piece
     requires { ⌜ 2048 ≤ length (now out) ⌝ }
     ensures { λ r. ⌜ r ≡ walks.pieceOf (walks.refusedStep walk number) ⌝ }
@@ -191,14 +192,11 @@ fn refused_step(walk: Walk, number: u8, out: &mut [u8]) -> Piece
     }
 }
 
-// Writes the next piece at the front of an output slice of at least 2,048 bytes.
-pub fn step(walk: Walk, vram: &[u8; 16384], out: &mut [u8]) -> Piece
-    ensures { λ r. ⌜ r ≡ walks.pieceOf (walks.stepOf (now (vram .entry)) walk (now (out .entry))) ⌝ }
-    ensures { λ _. ⌜ now (out .exit) ≡ putAt 0 (walks.stepOf (now (vram .entry)) walk (now (out .entry)) .bytes) (now (out .entry)) ⌝ }
+// Writes the next piece at the front of the output, whose length by type any piece has room in: no program can lend a shorter one.
+pub fn step(walk: Walk, vram: &[u8; 16384], out: &mut [u8; 2048]) -> Piece
+    ensures { λ r. ⌜ r ≡ walks.pieceOf (walks.stepOf (now (vram .entry)) walk) ⌝ }
+    ensures { λ _. ⌜ now (out .exit) ≡ putAt 0 (walks.stepOf (now (vram .entry)) walk .bytes) (now (out .entry)) ⌝ }
 {
-    if out.len() < 2048 {
-        return nothing(walk);
-    }
     let chip = walk.chip;
     let next = walk.next;
     match next {

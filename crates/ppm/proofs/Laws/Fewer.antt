@@ -4,7 +4,6 @@ use native.Mathlib.Omega.{arith}
 use mathlib.Core.Path.{_≡_, refl, sym, ap, subst⁻¹, _∙_}
 use mathlib.Core.Bool.{Bool, true, false, cond}
 use mathlib.Core.List.{List}
-use lib.Dec.{leb}
 use lib.ListN.{length, replicate}
 use borrow.Author.Tests.{eqb-false}
 use Rattle.chip.specs.Lists.{putAt}
@@ -28,18 +27,14 @@ fewer-at vram (Line l) w h = by (isAccepted (drawLineRefusal (w .chip) vram (rep
     by true e more = omega (arith, line-below vram w l e, eqb-false l 191 more)
     by false e more = absurd (differ more)
 
-pub fewer-left : (vram : List ℕ) (w : Walk) (out : List ℕ) → stepOf vram w out .last ≡ false → stepsLeft (stepOf vram w out .walk) < stepsLeft w
+pub fewer-left : (vram : List ℕ) (w : Walk) → stepOf vram w .last ≡ false → stepsLeft (stepOf vram w .walk) < stepsLeft w
 unfolding stepOf
-fewer-left vram w out h = by (leb 768 (length out)) h
-  where
-    by : (b : Bool) → cond b (stepAt vram (w .next) w) (writesNothing w) .last ≡ false → stepsLeft (cond b (stepAt vram (w .next) w) (writesNothing w) .walk) < stepsLeft w
-    by true more = fewer-at vram (w .next) w more
-    by false more = absurd (differ more)
+fewer-left vram w h = fewer-at vram (w .next) w h
 
--- what the answer of `step` tells its caller
-module _ (vram : List ℕ) (w : Walk) (out : List ℕ) {p : Piece} (e : p ≡ pieceOf (stepOf vram w out)) where
+-- what a caller knows by the answer of `step`
+module _ (vram : List ℕ) (w : Walk) {p : Piece} (e : p ≡ pieceOf (stepOf vram w)) where
   pub falls : p .last ≡ false → stepsLeft (p .walk) < stepsLeft w
-  falls more = subst⁻¹ (λ (q : Piece). stepsLeft (q .walk) < stepsLeft w) e (fewer-left vram w out (sym (ap (λ (q : Piece). q .last) e) ∙ more))
+  falls more = subst⁻¹ (λ (q : Piece). stepsLeft (q .walk) < stepsLeft w) e (fewer-left vram w (sym (ap (λ (q : Piece). q .last) e) ∙ more))
 
-  pub fits : {out′ : List ℕ} → out′ ≡ putAt 0 (stepOf vram w out .bytes) out → length out′ ≡ length out → p .written ≤ length out
-  fits left kept = subst⁻¹ (λ (q : Piece). q .written ≤ length out) e (put-fits (stepOf vram w out .bytes) out left kept)
+  pub fits : (out : List ℕ) {out′ : List ℕ} → out′ ≡ putAt 0 (stepOf vram w .bytes) out → p .written ≤ length out′
+  fits out {out′} left = subst⁻¹ (λ (q : Piece). q .written ≤ length out′) e (put-fits (stepOf vram w .bytes) out left)

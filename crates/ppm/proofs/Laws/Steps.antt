@@ -1,12 +1,12 @@
--- What a step does, by what is next and by the length of the slice.
-use Prim.Native.Nat.{ℕ, _+_, _≤_, _<_}
+-- What a step does, by what is next.
+use Prim.Native.Nat.{ℕ, _+_, _≤_}
 use native.Mathlib.Omega.{arith}
 use mathlib.Core.Path.{_≡_, refl, ap, _∙_}
 use mathlib.Core.Bool.{Bool, true, cond}
 use mathlib.Core.List.{List, [], _∷_}
 use lib.Dec.{eqb}
 use lib.ListN.{length, replicate, length-replicate}
-use borrow.Author.Tests.{eq-eqb, ne-eqb, le-leb, lt-leb, leb-true}
+use borrow.Author.Tests.{eq-eqb, ne-eqb, le-leb, leb-true}
 use Rattle.chip.specs.State.{wellFormed}
 use Rattle.chip.specs.Refusals.{Test, numberOf, isAccepted, vramTest, sliceTest, stateTest, lineTest}
 use Rattle.chip.specs.declared.state.Chip.{Chip}
@@ -21,14 +21,9 @@ use Rattle.ppm.specs.declared.walk.Walk.{Walk}
 use Rattle.ppm.specs.Picture.{painted}
 use Rattle.ppm.specs.Walk.{writesNothing, going, lineStep, stepAt, stepOf}
 
-module _ (vram : List ℕ) (w : Walk) (out : List ℕ) where
-  pub step-short : length out < 768 → stepOf vram w out ≡ writesNothing w
-  unfolding stepOf
-  step-short h = rw (lt-leb 768 (length out) h)
-
-  pub step-fits : {n : Next} → 768 ≤ length out → w .next ≡ n → stepOf vram w out ≡ stepAt vram n w
-  unfolding stepOf
-  step-fits h e = ap (λ (b : Bool). cond b (stepAt vram (w .next) w) (writesNothing w)) (le-leb 768 (length out) h) ∙ ap (λ (m : Next). stepAt vram m w) e
+pub step-by : (vram : List ℕ) (w : Walk) {n : Next} → w .next ≡ n → stepOf vram w ≡ stepAt vram n w
+unfolding stepOf
+step-by vram w e = ap (λ (m : Next). stepAt vram m w) e
 
 -- the slice that a line is drawn into
 abbrev pub blank : List ℕ

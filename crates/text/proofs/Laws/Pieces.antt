@@ -9,15 +9,15 @@ use Rattle.text.specs.Pieces.{Step, Output, ahead, stepsFrom}
 abbrev pub wholly : List ℕ → Output
 wholly bytes = record { bytes = bytes; whole = true }
 
-module _ {W : Type 0} (step : W → List ℕ → Step W) (n : ℕ) (w : W) (slices : ℕ → List ℕ) {s : Step W} (e : step w (slices 0) ≡ s) where
-  one-step : stepsFrom step (suc n) w slices ≡ ahead s (stepsFrom step n (s .walk) (λ k. slices (suc k)))
+module _ {W : Type 0} (step : W → Step W) (n : ℕ) (w : W) {s : Step W} (e : step w ≡ s) where
+  one-step : stepsFrom step (suc n) w ≡ ahead s (stepsFrom step n (s .walk))
   unfolding stepsFrom
-  one-step = ap (λ (t : Step W). ahead t (stepsFrom step n (t .walk) (λ k. slices (suc k)))) e
+  one-step = ap (λ (t : Step W). ahead t (stepsFrom step n (t .walk))) e
 
   -- the last piece
-  pub last-step : s .last ≡ true → stepsFrom step (suc n) w slices ≡ wholly (s .bytes)
+  pub last-step : s .last ≡ true → stepsFrom step (suc n) w ≡ wholly (s .bytes)
   last-step l = one-step ∙ rw l (ap wholly (append-nil (s .bytes)))
 
   -- a piece before others
-  pub more-steps : {rest : Output} → s .last ≡ false → stepsFrom step n (s .walk) (λ k. slices (suc k)) ≡ rest → stepsFrom step (suc n) w slices ≡ record { bytes = s .bytes ++ rest .bytes; whole = rest .whole }
+  pub more-steps : {rest : Output} → s .last ≡ false → stepsFrom step n (s .walk) ≡ rest → stepsFrom step (suc n) w ≡ record { bytes = s .bytes ++ rest .bytes; whole = rest .whole }
   more-steps l r = one-step ∙ rw l (ap (λ (o : Output). record { bytes = s .bytes ++ o .bytes; whole = o .whole }) r)

@@ -34,6 +34,6 @@ after l₀ i a b {j} {k} {l₁} {l₂} h p q = (
   q .1 ∙ ap₂ (λ (m : ℕ) (l : List ℕ). putAt m b l) (p .0) (p .1) ∙ put-put i a b l₀ h,
 )
 
--- bytes that are put in at the front of a list of the same length have room in it
-pub put-fits : (bytes l : List ℕ) {l′ : List ℕ} → l′ ≡ putAt 0 bytes l → length l′ ≡ length l → length bytes ≤ length l
-put-fits bytes l e kept = omega (arith, sym kept ∙ ap length e ∙ length-append bytes (drop (0 + length bytes) l))
+-- a list has at least the bytes that were put in at its front
+pub put-fits : (bytes l : List ℕ) {l′ : List ℕ} → l′ ≡ putAt 0 bytes l → length bytes ≤ length l′
+put-fits bytes l e = omega (arith, ap length e ∙ length-append bytes (drop (0 + length bytes) l))

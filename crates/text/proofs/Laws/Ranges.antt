@@ -1,5 +1,5 @@
 -- The steps over the lines of a picture write its ranges.
-use Prim.Native.Nat.{ℕ, zero, suc, _+_, _-_, _≤_}
+use Prim.Native.Nat.{ℕ, zero, suc, _+_, _-_}
 use native.Mathlib.Omega.{arith}
 use mathlib.Core.Path.{_≡_, refl, sym, ap, _∙_}
 use mathlib.Core.Bool.{Bool, true, false, cond}
@@ -22,7 +22,7 @@ use Rattle.text.proofs.Laws.Steps.{step-line, step-end}
 
 -- A walk with a state.
 abbrev pub walkAt : Chip → Next → ℕ → ℕ → List ℕ → Walk
-walkAt c next first last range = record { next = next; chip = c; first = first; last = last; range = range }
+walkAt c next from to each = record { next = next; chip = c; from = from; to = to; colours = each }
 
 module _ (vram : List ℕ) (full : length vram ≡ 16384) (c : Chip) (ok : wellFormed c ≡ true) where
   abbrev f : ℕ → List ℕ
@@ -31,36 +31,36 @@ module _ (vram : List ℕ) (full : length vram ≡ 16384) (c : Chip) (ok : wellF
   pub can-draw : drawable c vram ≡ true
   can-draw = rw (eq-eqb (length vram) 16384 full) ok
 
-  -- line l is next, n lines are left, and the range so far has k lines, first to last
-  pub ranges-written : (n l first last k : ℕ) (range : List ℕ) (slices : ℕ → List ℕ) → ((i : ℕ) → 2048 ≤ length (slices i)) → l + n ≡ 192 → first + k ≡ l → last + 1 ≡ l → stepsFrom (stepOf vram) (suc n) (walkAt c (nextAt l) first last range) slices ≡ wholly (rangesText first (runsAfter same k range (linesFrom f l n)))
+  -- line l is next, n lines are left, and the range so far has k lines, `from` to `to`
+  pub ranges-written : (n l from to k : ℕ) (each : List ℕ) → l + n ≡ 192 → from + k ≡ l → to + 1 ≡ l → stepsFrom (stepOf vram) (suc n) (walkAt c (nextAt l) from to each) ≡ wholly (rangesText from (runsAfter same k each (linesFrom f l n)))
   unfolding linesFrom rangesText runsAfter lineStep
-  ranges-written zero l first last k range slices fits e ek el =
-      let w : Walk = walkAt c (nextAt l) first last range in
+  ranges-written zero l from to k each e ek el =
+      let w : Walk = walkAt c (nextAt l) from to each in
       let over : nextAt l ≡ End = ap (λ (b : Bool). cond b (Line l) End) (le-ltb l 192 (omega arith)) in
-      let upto : last ≡ first + k - 1 = omega arith in
-      last-step (stepOf vram) 0 w slices (step-end vram w (slices 0) (fits 0) over) refl
-      ∙ ap wholly (ap (λ (b : ℕ). rangeText first b range) upto ∙ sym (append-nil (rangeText first (first + k - 1) range)))
-  ranges-written (suc n) l first last k range slices fits e ek el =
-      by (same range (f l)) refl
-      (ranges-written n (l + 1) first l (k + 1) range (λ i. slices (suc i)) (λ i. fits (suc i)) (omega arith) (omega arith) refl)
-      (ranges-written n (l + 1) l l 1 (f l) (λ i. slices (suc i)) (λ i. fits (suc i)) (omega arith) refl refl)
+      let upto : to ≡ from + k - 1 = omega arith in
+      last-step (stepOf vram) 0 w (step-end vram w over) refl
+      ∙ ap wholly (ap (λ (b : ℕ). rangeText from b each) upto ∙ sym (append-nil (rangeText from (from + k - 1) each)))
+  ranges-written (suc n) l from to k each e ek el =
+      by (same each (f l)) refl
+      (ranges-written n (l + 1) from l (k + 1) each (omega arith) (omega arith) refl)
+      (ranges-written n (l + 1) l l 1 (f l) (omega arith) refl refl)
     where
       line : nextAt l ≡ Line l
       line = ap (λ (b : Bool). cond b (Line l) End) (lt-ltb l 192 (omega arith))
 
-      is : (b : Bool) → same range (f l) ≡ b → stepOf vram (walkAt c (nextAt l) first last range) (slices 0) ≡ lineStepBy b (walkAt c (nextAt l) first last range) l (f l)
+      is : (b : Bool) → same each (f l) ≡ b → stepOf vram (walkAt c (nextAt l) from to each) ≡ lineStepBy b (walkAt c (nextAt l) from to each) l (f l)
       is b t =
-          step-line vram (walkAt c (nextAt l) first last range) (slices 0) (fits 0) line (omega arith) can-draw
-          ∙ ap (λ (d : Bool). lineStepBy d (walkAt c (nextAt l) first last range) l (f l)) t
+          step-line vram (walkAt c (nextAt l) from to each) line (omega arith) can-draw
+          ∙ ap (λ (d : Bool). lineStepBy d (walkAt c (nextAt l) from to each) l (f l)) t
 
-      by : (b : Bool) → same range (f l) ≡ b
-          → stepsFrom (stepOf vram) (suc n) (walkAt c (nextAt (l + 1)) first l range) (λ i. slices (suc i)) ≡ wholly (rangesText first (runsAfter same (k + 1) range (linesFrom f (l + 1) n)))
-          → stepsFrom (stepOf vram) (suc n) (walkAt c (nextAt (l + 1)) l l (f l)) (λ i. slices (suc i)) ≡ wholly (rangesText l (runsAfter same 1 (f l) (linesFrom f (l + 1) n)))
-          → stepsFrom (stepOf vram) (suc (suc n)) (walkAt c (nextAt l) first last range) slices ≡ wholly (rangesText first (runsAfter same k range (f l ∷ linesFrom f (l + 1) n)))
+      by : (b : Bool) → same each (f l) ≡ b
+          → stepsFrom (stepOf vram) (suc n) (walkAt c (nextAt (l + 1)) from l each) ≡ wholly (rangesText from (runsAfter same (k + 1) each (linesFrom f (l + 1) n)))
+          → stepsFrom (stepOf vram) (suc n) (walkAt c (nextAt (l + 1)) l l (f l)) ≡ wholly (rangesText l (runsAfter same 1 (f l) (linesFrom f (l + 1) n)))
+          → stepsFrom (stepOf vram) (suc (suc n)) (walkAt c (nextAt l) from to each) ≡ wholly (rangesText from (runsAfter same k each (f l ∷ linesFrom f (l + 1) n)))
       by true t on over =
-          more-steps (stepOf vram) (suc n) (walkAt c (nextAt l) first last range) slices (is true t) refl on
+          more-steps (stepOf vram) (suc n) (walkAt c (nextAt l) from to each) (is true t) refl on
           ∙ rw t refl
       by false t on over =
-          let upto : first + k - 1 ≡ last = omega arith in
-          more-steps (stepOf vram) (suc n) (walkAt c (nextAt l) first last range) slices (is false t) refl over
+          let upto : from + k - 1 ≡ to = omega arith in
+          more-steps (stepOf vram) (suc n) (walkAt c (nextAt l) from to each) (is false t) refl over
           ∙ rw (t, upto, ek) refl

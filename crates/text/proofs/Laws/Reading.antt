@@ -27,7 +27,7 @@ same-refusal vram file full =
     passed (vramTest vram) (sizeTest file ∷ trailerTest file ∷ sumTest file ∷ contentsTest file ∷ []) (eq-eqb (length vram) 16384 full)
     ∙ sym (passed (vramTest clearedVram) (sizeTest file ∷ trailerTest file ∷ sumTest file ∷ contentsTest file ∷ []) (eq-eqb (length clearedVram) 16384 (length-replicate {A = ℕ} 16384 0)))
 
--- a file that is accepted is shown by the state and VRAM that it holds, and of another the refusal is told
+-- a file that is accepted is shown by the state and VRAM that it holds, and for another the line of the refusal is written
 module _ (shown : Chip → List ℕ → List ℕ) (vram file : List ℕ) (full : length vram ≡ 16384) where
   output-shown : readRefusal vram file ≡ Accepted → outputOf shown file ≡ shown (decoded (stateBytes file) true) (vramBytes file)
   unfolding outputOf
@@ -43,22 +43,22 @@ module _ (shown : Chip → List ℕ → List ℕ) (vram file : List ℕ) (full :
       ∙ ap (λ (q : Refusal). refusedText (numberOf q)) (sym (same-refusal vram file full))
 
 -- A program that reads the file and then steps, up to n + 1 times, writes the output, if it does so from each state and VRAM
--- that a file can hold, and if its first step after a refusal tells it and is the last.
-module _ {W : Type 0} (step : List ℕ → W → List ℕ → Step W) (start : Refusal → Chip → W) (shown : Chip → List ℕ → List ℕ) (n : ℕ) (slices : ℕ → List ℕ)
-    (shows : (vram : List ℕ) → length vram ≡ 16384 → (c : Chip) → wellFormed c ≡ true → stepsFrom (step vram) (suc n) (start Accepted c) slices ≡ wholly (shown c vram))
-    (tells : (vram : List ℕ) (r : Refusal) (c : Chip) → isAccepted r ≡ false → step vram (start r c) (slices 0) ≡ record { bytes = refusedText (numberOf r); walk = start r c; last = true }) where
-  pub from-file : (file vram : List ℕ) → length vram ≡ 16384 → stepsFrom (step (readVram vram file)) (suc n) (start (readRefusal vram file) (readSnapshot powerUpState vram file .chip)) slices ≡ wholly (outputOf shown file)
+-- that a file can hold, and if its first step after a refusal writes its line and is the last.
+module _ {W : Type 0} (step : List ℕ → W → Step W) (start : Refusal → Chip → W) (shown : Chip → List ℕ → List ℕ) (n : ℕ)
+    (shows : (vram : List ℕ) → length vram ≡ 16384 → (c : Chip) → wellFormed c ≡ true → stepsFrom (step vram) (suc n) (start Accepted c) ≡ wholly (shown c vram))
+    (refused : (vram : List ℕ) (r : Refusal) (c : Chip) → isAccepted r ≡ false → step vram (start r c) ≡ record { bytes = refusedText (numberOf r); walk = start r c; last = true }) where
+  pub from-file : (file vram : List ℕ) → length vram ≡ 16384 → stepsFrom (step (readVram vram file)) (suc n) (start (readRefusal vram file) (readSnapshot powerUpState vram file .chip)) ≡ wholly (outputOf shown file)
   from-file file vram full = by (isAccepted (readRefusal vram file)) refl
     where
-      by : (b : Bool) → isAccepted (readRefusal vram file) ≡ b → stepsFrom (step (readVram vram file)) (suc n) (start (readRefusal vram file) (readSnapshot powerUpState vram file .chip)) slices ≡ wholly (outputOf shown file)
+      by : (b : Bool) → isAccepted (readRefusal vram file) ≡ b → stepsFrom (step (readVram vram file)) (suc n) (start (readRefusal vram file) (readSnapshot powerUpState vram file .chip)) ≡ wholly (outputOf shown file)
       by true e =
           let held : Chip = decoded (stateBytes file) true in
           let ok : readRefusal vram file ≡ Accepted = is-accepted (readRefusal vram file) e in
           let r = accepted-readable vram file ok in
-          ap (λ (q : Refusal). stepsFrom (step (ifAccepted q (vramBytes file) vram)) (suc n) (start q (ifAccepted q held powerUpState)) slices) ok
+          ap (λ (q : Refusal). stepsFrom (step (ifAccepted q (vramBytes file) vram)) (suc n) (start q (ifAccepted q held powerUpState))) ok
           ∙ shows (vramBytes file) (length-vram file (r .whole)) held (r .holds)
           ∙ ap wholly (sym (output-shown shown vram file full ok))
       by false e =
           let c : Chip = readSnapshot powerUpState vram file .chip in
-          last-step (step (readVram vram file)) n (start (readRefusal vram file) c) slices (tells (readVram vram file) (readRefusal vram file) c e) refl
+          last-step (step (readVram vram file)) n (start (readRefusal vram file) c) (refused (readVram vram file) (readRefusal vram file) c e) refl
           ∙ ap wholly (sym (output-refused shown vram file full e))

@@ -17,11 +17,11 @@ abbrev μ-loop : tie.MeasureT-loop
 loop-holds : tie.Need-loop-holds Inv-loop μ-loop
 loop-holds c = (omega arith, refl, painting-none)
 
-shared-slice-read-pixel-of : tie.Need-shared-slice-read-pixel-of Inv-loop μ-loop
-shared-slice-read-pixel-of c = search needs
+shared-slice-read-rgb-of : tie.Need-shared-slice-read-rgb-of Inv-loop μ-loop
+shared-slice-read-rgb-of c = search needs
 
-pixel-of-requires : tie.Need-pixel-of-requires Inv-loop μ-loop
-pixel-of-requires c κs = search needs
+rgb-of-requires : tie.Need-rgb-of-requires Inv-loop μ-loop
+rgb-of-requires c κs = search needs
 
 array-read-out : tie.Need-array-read-out Inv-loop μ-loop
 array-read-out c = search needs
@@ -66,7 +66,7 @@ loop-again : tie.Need-loop-again Inv-loop μ-loop
 loop-again c =
     let at = c .before .before .before .loop in
     let room = c .before .before .before .before .before .before .pre in
-    let more = painting-more room (omega arith) (c .pixel-of .ensures) (at .inv .2) in
+    let more = painting-more room (omega arith) (c .rgb-of .ensures) (at .inv .2) in
     (omega arith, painting-long room (omega arith) more, more)
 
 same-length : tie.Need-same-length Inv-loop μ-loop
@@ -82,8 +82,8 @@ paint-spec =
     Inv-loop
     μ-loop
     loop-holds
-    shared-slice-read-pixel-of
-    pixel-of-requires
+    shared-slice-read-rgb-of
+    rgb-of-requires
     array-read-out
     mul-out
     slice-write-out

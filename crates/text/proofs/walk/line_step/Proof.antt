@@ -26,7 +26,7 @@ slice-aggregate-same c = search needs
 slice-aggregate-same-2 : tie.Need-slice-aggregate-same-2
 slice-aggregate-same-2 c = search needs
 
-wide : (s : tie.Start) → length (s .args .walk .range) ≡ 256
+wide : (s : tie.Start) → length (s .args .walk .colours) ≡ 256
 wide s = search needs
 
 same-requires : tie.Need-same-requires

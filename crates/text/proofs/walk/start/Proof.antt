@@ -1,9 +1,7 @@
 -- `start` meets its contract.
-use native.Mathlib.Omega.{arith}
 use mathlib.Core.Path.{_≡_}
 use denote.Ref.{now}
 use Rattle.chip.specs.State.{powerUpState}
-use Rattle.chip.proofs.Laws.Refusals.{number-small}
 use Rattle.snapshot.specs.Calls.{readSnapshot}
 use Rattle.text.proofs.Laws.Steps.{started}
 use borrow.Author.Needs.{needs}
@@ -16,19 +14,15 @@ power-up-state-requires c κs = search needs
 read-requires : tie.Need-read-requires
 read-requires c κs = search needs
 
-number-requires : tie.Need-number-requires
-number-requires c κs = search needs
-
 first-next-requires : tie.Need-first-next-requires
-first-next-requires c κs = omega (arith, number-small (c .before .read .result .refusal), c .number .ensures)
+first-next-requires c κs = search needs
 
 returns : tie.Need-returns
 returns c =
-    let n = c .before .before in
-    let r = n .before in
+    let r = c .before .before in
     let a = r .before .before .before .before .args in
     let e : r .read .result ≡ readSnapshot powerUpState (now (a .vram)) (now (a .file)) = rw (r .before .before .power-up-state .ensures) at (r .read .ensures .0) in
-    (started (now (a .vram)) (now (a .file)) e (n .number .ensures) (c .before .first-next .ensures), r .read .ensures .1)
+    (started (now (a .vram)) (now (a .file)) e (c .before .first-next .ensures), r .read .ensures .1)
 
 pub start-spec : {M : Type 1} → statement M
 start-spec =
@@ -36,6 +30,5 @@ start-spec =
     (tie.spec
     power-up-state-requires
     read-requires
-    number-requires
     first-next-requires
     returns)

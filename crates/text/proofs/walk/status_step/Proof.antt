@@ -1,6 +1,6 @@
 -- `status_step` meets its contract.
 use denote.Ref.{now}
-use Rattle.text.proofs.Laws.Steps.{status-told}
+use Rattle.text.proofs.Laws.Steps.{status-written}
 use borrow.Author.Needs.{needs}
 use Rattle.text.proofs.walk.status_step.Statement.{statement}
 use Rattle.text.proofs.walk.status_step.Tie as tie
@@ -24,7 +24,7 @@ returns : tie.Need-returns
 returns c =
     let p = c .before .before .before .before .before in
     let a = p .before .before .before .before .before .before .before .args in
-    status-told (now (a .vram)) (a .walk) (now (a .out)) (p .before .before .status-drawn .ensures) (p .put-status .ensures) (c .before .draw-row .ensures .1)
+    status-written (now (a .vram)) (a .walk) (now (a .out)) (p .before .before .status-drawn .ensures) (p .put-status .ensures) (c .before .draw-row .ensures .1)
 
 pub status-step-spec : {M : Type 1} → statement M
 status-step-spec =
