@@ -1,10 +1,10 @@
 /* Birdcleft: a proved model of the TMS9918A video display processor. examples/host.c shows it in use.
  *
- * The caller owns every byte. A call finds the chip's state in a block of 15 bytes and answers a number of two
- * parts: its refusal number times 256, and below that what it has to tell: a byte that was read, 1 for an
- * interrupt line that is on, the count of lines that a refresh redrew, and 0 otherwise. A call that is refused
- * leaves block and slices as they were. Slices of one call do not overlap, and no pointer is null, also where a
- * length is 0. */
+ * The caller owns every byte. A call on the chip finds its state in a block of 15 bytes; reading and writing a log's
+ * records needs none. Each call answers a number of two parts: its refusal number times 256, and below that what it
+ * has to tell: a byte that was read, 1 for an interrupt line that is on, the count of lines that a refresh redrew, the
+ * byte that a log's run found in place of the expected one, and 0 otherwise. A call that is refused leaves block and
+ * slices as they were. Slices of one call do not overlap, and no pointer is null, also where a length is 0. */
 #ifndef BIRDCLEFT_H
 #define BIRDCLEFT_H
 
@@ -23,22 +23,34 @@ enum {
     VDP_LINE_SIZE = 256,
     VDP_FRAME_SIZE = 49152,
     VDP_NOTES_SIZE = 192,
-    VDP_SNAPSHOT_SIZE = 16406
+    VDP_SNAPSHOT_SIZE = 16406,
+    VDP_OUTCOME_SIZE = 4
 };
 
 /* How many lines a frame has. */
 enum { VDP_LINES = 192 };
 
-/* Refusal numbers. Where several fit, the answer is the earliest of 1, 2, 5, 6, 7, 3, 4. */
+/* A log has 0 to 20,000 records of two bytes and then a trailer: 4 to 40,004 bytes, an even number. Its record bytes are
+ * all but the trailer. */
+enum {
+    VDP_RECORD_SIZE = 2,
+    VDP_LOG_TRAILER_SIZE = 4,
+    VDP_LOG_RECORDS_MAX = 20000,
+    VDP_LOG_SIZE_MAX = 40004
+};
+
+/* Refusal numbers. Where several fit, the answer is the earliest of 1, 2, 5, 6, 7, 3, 4, 8, 9. */
 enum {
     VDP_ACCEPTED = 0,
     VDP_VRAM_LENGTH = 1,     /* VRAM slice not 16,384 bytes */
-    VDP_SLICE_LENGTH = 2,    /* another slice but the snapshot of wrong length */
+    VDP_SLICE_LENGTH = 2,    /* another slice of wrong length, but for snapshot, log and record bytes */
     VDP_ILL_FORMED = 3,      /* the block holds no well-formed state */
-    VDP_LINE_NUMBER = 4,     /* line number above 191 */
+    VDP_LINE_NUMBER = 4,     /* line number above 191; in a log's record that is 9 */
     VDP_SNAPSHOT_LENGTH = 5, /* snapshot slice not 16,406 bytes */
     VDP_TRAILER = 6,         /* trailer's signature or a distance wrong */
-    VDP_CHECKSUM = 7         /* snapshot sum wrong */
+    VDP_CHECKSUM = 7,        /* snapshot sum wrong */
+    VDP_LOG_FORM = 8,        /* log or record bytes of wrong length, or the log's trailer wrong */
+    VDP_LOG_RECORD = 9       /* a record that is not allowed: its operation, or its value for that operation */
 };
 
 /* The parts of an answer. */
@@ -122,6 +134,36 @@ uint32_t vdp_read_snapshot(uint8_t *block, size_t block_len, uint8_t *vram, size
 
 /* A snapshot of state and VRAM. */
 uint32_t vdp_write_snapshot(const uint8_t *block, size_t block_len, const uint8_t *vram, size_t vram_len, uint8_t *snapshot, size_t snapshot_len);
+
+/* The log: calls that a driver and its bench made, to be made again. A record is a byte for the operation and one for its
+ * value. Operations above 6 and other values than these are not allowed: */
+enum {
+    VDP_LOG_DATA_WRITE = 0,     /* the byte to write */
+    VDP_LOG_CONTROL_WRITE = 1,  /* the byte to write */
+    VDP_LOG_DATA_READ = 2,      /* the byte that is expected */
+    VDP_LOG_STATUS_READ = 3,    /* the byte that is expected */
+    VDP_LOG_DRAW_LINE = 4,      /* the line's number, 0 to 191 */
+    VDP_LOG_END_OF_DISPLAY = 5, /* 0 */
+    VDP_LOG_RESET = 6           /* 0 */
+};
+
+/* The trailer is two numbers of two bytes, low byte first: how many bytes stand before the trailer, and their sum modulo
+ * 65,536. It is not part of the sum. A log without records is four bytes of 0.
+ *
+ * The outcome of a run is two such numbers: how many records were done, and the place of the record whose read
+ * differed, counted from 0; without one, the number of records. */
+
+/* Makes the calls of a log in order, with the effect that each has when it is made alone; a drawn line goes into the line
+ * slice, which keeps what it holds where no line is drawn. The whole log is tested before the first record. The run ends
+ * behind the last record, or behind the first read that gives another byte than the expected one: that read is done, no
+ * record after it is, and the byte that it gave is answered. */
+uint32_t vdp_run_log(uint8_t *block, size_t block_len, uint8_t *vram, size_t vram_len, uint8_t *map, size_t map_len, uint8_t *line, size_t line_len, const uint8_t *log, size_t log_len, uint8_t *outcome, size_t outcome_len);
+
+/* The record bytes of a log, into a slice that is 4 bytes shorter. */
+uint32_t vdp_read_log(const uint8_t *log, size_t log_len, uint8_t *records, size_t records_len);
+
+/* A log of record bytes, into a slice that is 4 bytes longer. */
+uint32_t vdp_write_log(const uint8_t *records, size_t records_len, uint8_t *log, size_t log_len);
 
 #ifdef __cplusplus
 }

@@ -1,25 +1,30 @@
 -- Laws about a call from C, for the proofs of the calls and for the crates above.
 use Prim.Native.Nat.{ℕ, _*_}
 use native.Mathlib.Omega.{arith}
-use mathlib.Core.Path.{_≡_, refl, ap, _∙_}
-use mathlib.Core.Bool.{true, false}
-use mathlib.Core.List.{List, [], _∷_}
+use mathlib.Core.Path.{_≡_, refl, sym, ap, _∙_}
+use mathlib.Core.Bool.{Bool, true, false}
+use mathlib.Core.List.{List, [], _∷_, _++_}
+use lib.Dec.{eqb}
 use lib.ListN.{length}
 use borrow.Author.Tests.{eqb-true, eq-eqb, ne-eqb}
-use Rattle.chip.specs.Refusals.{numberOf, resultOf, isAccepted, ifAccepted, vramTest, sliceTest}
+use Rattle.chip.specs.Refusals.{Test, numberOf, resultOf, isAccepted, refusalOf, ifAccepted, vramTest, sliceTest}
+use Rattle.chip.specs.Lists.{putAt}
 use Rattle.chip.specs.Layout.{blockSize, blockOf, chipOf}
 use Rattle.chip.specs.declared.state.Chip.{Chip}
 use Rattle.chip.specs.declared.refusal.Answer.{Answer}
 use Rattle.chip.specs.declared.refusal.Refusal.{Refusal}
-use Rattle.chip.proofs.Laws.Refusals.{all-pass}
+use Rattle.chip.specs.declared.refusal.Refusal.the-variants.{Accepted, VramLength, SliceLength}
+use Rattle.chip.proofs.Laws.Refusals.{AllPass, all-pass, differ}
+use Rattle.snapshot.specs.Format.{lowFirst}
 use Rattle.birdcleft.specs.Calls.{blockEntry, vramEntry, resultThrough, blockThrough, listThrough}
+use Rattle.birdcleft.specs.Logs.{outcomeSize, runEntry}
 
 -- 256 times the number of a refusal at entry, x, which the call tests against 0.
 module _ (entry : Refusal) {x : ℕ} (number : x ≡ numberOf entry * 256) where
-  passes : x ≡ 0 → isAccepted entry ≡ true
+  pub passes : x ≡ 0 → isAccepted entry ≡ true
   passes z = eq-eqb (numberOf entry) 0 (omega arith)
 
-  refuses : (x ≡ 0 → ⊥) → isAccepted entry ≡ false
+  pub refuses : (x ≡ 0 → ⊥) → isAccepted entry ≡ false
   refuses n = ne-eqb (numberOf entry) 0 (λ z. n (number ∙ ap (λ (k : ℕ). k * 256) z))
 
 -- Past the tests at entry the block has 15 bytes.
@@ -32,6 +37,51 @@ pub vram-fifteen : (block vram : List ℕ) {x : ℕ} → x ≡ numberOf (vramEnt
 unfolding vramEntry
 vram-fifteen block vram number z =
     eqb-true _ _ (all-pass (vramTest vram ∷ sliceTest blockSize block ∷ []) (refl, (refl, tt)) (passes (vramEntry block vram) number z) .1 .0)
+
+-- A test of VRAM's length, and one of another slice's, by whether it passes.
+abbrev pub long : Bool → Test
+long p = record { refusal = VramLength; passes = p }
+
+abbrev pub fits : Bool → Test
+fits q = record { refusal = SliceLength; passes = q }
+
+-- The run of a log makes the same tests at entry, and then that of the outcome's length.
+module _ (block vram outcome : List ℕ) where
+  pub run-entry-refused : isAccepted (vramEntry block vram) ≡ false → runEntry block vram outcome ≡ vramEntry block vram
+  unfolding vramEntry runEntry
+  run-entry-refused = by (eqb (length vram) 16384) (eqb (length block) 15) (eqb (length outcome) 4)
+    where
+      by : (p q o : Bool) → isAccepted (refusalOf (long p ∷ fits q ∷ [])) ≡ false → refusalOf (long p ∷ fits q ∷ fits o ∷ []) ≡ refusalOf (long p ∷ fits q ∷ [])
+      by true true o e = absurd (differ e)
+      by true false o e = refl
+      by false q o e = refl
+
+  run-entry-passed : isAccepted (vramEntry block vram) ≡ true → runEntry block vram outcome ≡ refusalOf (sliceTest outcomeSize outcome ∷ [])
+  unfolding vramEntry runEntry
+  run-entry-passed = by (eqb (length vram) 16384) (eqb (length block) 15) (eqb (length outcome) 4)
+    where
+      by : (p q o : Bool) → isAccepted (refusalOf (long p ∷ fits q ∷ [])) ≡ true → refusalOf (long p ∷ fits q ∷ fits o ∷ []) ≡ refusalOf (fits o ∷ [])
+      by true true o e = refl
+      by true false o e = absurd (differ (sym e))
+      by false q o e = absurd (differ (sym e))
+
+  pub outcome-wrong : isAccepted (vramEntry block vram) ≡ true → (length outcome ≡ 4 → ⊥) → runEntry block vram outcome ≡ SliceLength
+  outcome-wrong ok wrong = run-entry-passed ok ∙ rw (ne-eqb (length outcome) 4 wrong)
+
+  pub outcome-right : isAccepted (vramEntry block vram) ≡ true → length outcome ≡ 4 → runEntry block vram outcome ≡ Accepted
+  outcome-right ok four = run-entry-passed ok ∙ rw (eq-eqb (length outcome) 4 four)
+
+-- Past those of the run of a log the outcome has four bytes, too.
+module _ (block vram outcome : List ℕ) {x : ℕ} (number : x ≡ numberOf (runEntry block vram outcome) * 256) (z : x ≡ 0) where
+  entry-passes : AllPass (vramTest vram ∷ sliceTest blockSize block ∷ sliceTest outcomeSize outcome ∷ [])
+  unfolding runEntry
+  entry-passes = all-pass (vramTest vram ∷ sliceTest blockSize block ∷ sliceTest outcomeSize outcome ∷ []) (refl, (refl, (refl, tt))) (passes (runEntry block vram outcome) number z)
+
+  pub run-fifteen : length block ≡ 15
+  run-fifteen = eqb-true _ _ (entry-passes .1 .0)
+
+  pub outcome-four : length outcome ≡ 4
+  outcome-four = eqb-true _ _ (entry-passes .1 .1 .0)
 
 -- A call that is refused at entry answers x, and leaves the block and every other list as lent. Past the entry the direct call
 -- on the state s that was loaded decides.
@@ -64,8 +114,17 @@ module _ (entry : Refusal) (block : List ℕ) (leaves : Chip → List ℕ) (lent
   unfolding listThrough
   direct-list passed loaded left = rw (passes entry number passed) (left ∙ ap leaves loaded)
 
+-- Two numbers put into the four bytes of an outcome.
+pub two-numbers : (l : List ℕ) (x y : ℕ) → length l ≡ 4 → putAt 2 (lowFirst y) (putAt 0 (lowFirst x) l) ≡ lowFirst x ++ lowFirst y
+two-numbers [] x y h = absurd (omega arith)
+two-numbers (a ∷ []) x y h = absurd (omega arith)
+two-numbers (a ∷ b ∷ []) x y h = absurd (omega arith)
+two-numbers (a ∷ b ∷ c ∷ []) x y h = absurd (omega arith)
+two-numbers (a ∷ b ∷ c ∷ d ∷ []) x y h = refl
+two-numbers (a ∷ b ∷ c ∷ d ∷ e ∷ l) x y h = absurd (omega arith)
+
 -- The laws by the place at which a proof cites them: for the block's length, at a refusal at entry, and at the call's end.
-pub ruleset lengths = (block-fifteen, vram-fifteen)
+pub ruleset lengths = (block-fifteen, vram-fifteen, run-fifteen, outcome-four)
 
 pub ruleset at-entry = (refused-result, refused-block, refused-list)
 

@@ -24,6 +24,7 @@ use Rattle.birdcleft.specs.Calls.{controlWrite, dataWrite, dataRead, sta
 use Rattle.birdcleft.specs.Lines.{drawLine}
 use Rattle.birdcleft.specs.Frames.{fullDraw, refresh}
 use Rattle.birdcleft.specs.Snapshots.{writeSnapshot}
+use Rattle.birdcleft.specs.Logs.{outcomeSize, runLog}
 use Rattle.birdcleft.proofs.Order as order
 
 -- The waiting flag, the first byte and the redraw mark of a block.
@@ -86,7 +87,7 @@ module _ (block : List ℕ) (unencoded : NoState block) where
       by : {r : Refusal} → r ≡ IllFormed → numberOf r * 256 + ifAccepted r number 0 ≡ refused
       by e = rw e
 
--- So each of the eleven calls from C that test the state refuses such a block, if every list that it is lent has its length,
+-- So each of the twelve calls from C that test the state refuses such a block, if every list that it is lent has its length,
 -- and the line number is at most 191. (Power-up and reading a snapshot replace the state.)
 module _ (block : List ℕ) (unencoded : NoState block) (fifteen : length block ≡ blockSize) where
   refuses : (ts : List Test) → AllPass ts → (number : ℕ) → order.resultAfter (sliceTest blockSize block ∷ (ts ++ (stateTest (chipOf block) ∷ []))) number ≡ refused
@@ -125,6 +126,12 @@ module _ (block : List ℕ) (unencoded : NoState block) (fifteen : length block 
     module _ (map : List ℕ) (mapped : length map ≡ mapSize) where
       pub data-write-refused : (b : ℕ) → dataWrite block vram map b .result ≡ refused
       data-write-refused b = order.data-write-order block vram map b ∙ with-vram (sliceTest mapSize map ∷ []) (eq-eqb _ _ mapped, tt) _
+
+      -- The tests of the log come later, and do not matter.
+      pub run-log-refused : (line log outcome : List ℕ) → length line ≡ lineSize → length outcome ≡ outcomeSize → runLog block vram map line log outcome .result ≡ refused
+      run-log-refused line log outcome fits four =
+          order.run-log-order block vram map line log outcome
+          ∙ rw (eq-eqb (length vram) vramSize long, eq-eqb (length block) blockSize fifteen, eq-eqb (length outcome) outcomeSize four, eq-eqb (length map) mapSize mapped, eq-eqb (length line) lineSize fits, no-state block unencoded)
 
       module _ (frame notes : List ℕ) (framed : length frame ≡ frameSize) (noted : length notes ≡ notesSize) where
         draw-refused : (number : ℕ) → order.resultAfter (sliceTest blockSize block ∷ vramTest vram ∷ sliceTest mapSize map ∷ sliceTest frameSize frame ∷ sliceTest notesSize notes ∷ stateTest (chipOf block) ∷ []) number ≡ refused

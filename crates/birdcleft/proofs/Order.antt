@@ -3,27 +3,32 @@
 -- the block's length with them.
 use Prim.Native.Nat.{ℕ, _+_, _*_}
 use mir.Val.{boolByte}
-use mathlib.Core.Path.{_≡_, refl}
+use mathlib.Core.Path.{_≡_, refl, sym, ap, _∙_}
 use mathlib.Core.Bool.{Bool, true, false}
 use mathlib.Core.List.{List, [], _∷_}
 use lib.Dec.{eqb}
 use lib.ListN.{length}
+use borrow.Author.Tests.{eqb-true}
 use Rattle.chip.specs.Map.{mapSize}
 use Rattle.chip.specs.Ports.{interruptOn}
-use Rattle.chip.specs.Refusals.{Test, vramTest, sliceTest, stateTest, numberOf, gives, refusalOf, ifAccepted}
+use Rattle.chip.specs.Refusals.{Test, vramTest, sliceTest, stateTest, numberOf, gives, isAccepted, refusalOf, resultOf, ifAccepted}
 use Rattle.chip.specs.Layout.{blockSize, chipOf}
 use Rattle.chip.specs.Calls.{powerUpTests, controlWriteTests, dataWriteTests, dataReadTests, statusReadTests, endOfDisplayTests, interruptLineTests, resetTests}
 use Rattle.chip.specs.declared.state.Chip.{Chip}
-use Rattle.chip.specs.declared.refusal.Refusal.the-variants.{VramLength, SliceLength}
+use Rattle.chip.specs.declared.refusal.Refusal.the-variants.{VramLength}
 use Rattle.scanline.specs.Calls.{drawLineOwnTests, drawLineTests}
 use Rattle.frame.specs.Lines.{frameSize, notesSize}
 use Rattle.frame.specs.Due.{dueCount}
 use Rattle.frame.specs.Calls.{drawTests}
 use Rattle.snapshot.specs.Calls.{fileTests, readTests, outputTests, writeTests}
+use Rattle.log.specs.Run as direct
+use Rattle.log.specs.declared.running.Ran.{Ran}
 use Rattle.birdcleft.specs.Calls.{blockEntry, vramEntry, resultThrough, powerUp, controlWrite, dataWrite, dataRead, statusRead, endOfDisplay, interruptLine, reset}
 use Rattle.birdcleft.specs.Lines.{drawLine}
 use Rattle.birdcleft.specs.Frames.{fullDraw, refresh}
 use Rattle.birdcleft.specs.Snapshots.{readSnapshot, writeSnapshot}
+use Rattle.birdcleft.specs.Logs.{outcomeSize, runEntry, runLog}
+use Rattle.birdcleft.proofs.Laws.{long, fits}
 
 -- The result of a call that makes these tests together: 256 times the number of the first refusal in the one order, and the
 -- number that the call reads where every test passes.
@@ -33,12 +38,6 @@ resultAfter ts number = numberOf (refusalOf ts) * 256 + ifAccepted (refusalOf ts
 -- The tests at entry, and then the direct call's. (It tests VRAM's length at most once: its other tests, ts, do not give that
 -- refusal.)
 module _ (ts : List Test) (other : gives ts VramLength ≡ false) (number : ℕ) (block : List ℕ) where
-  abbrev long : Bool → Test
-  long p = record { refusal = VramLength; passes = p }
-
-  abbrev fits : Bool → Test
-  fits q = record { refusal = SliceLength; passes = q }
-
   pub vram-in-order : (vram : List ℕ) → ifAccepted (vramEntry block vram) (resultAfter (vramTest vram ∷ ts) number) (numberOf (vramEntry block vram) * 256) ≡ resultAfter (sliceTest blockSize block ∷ vramTest vram ∷ ts) number
   unfolding vramEntry
   vram-in-order vram = by (eqb (length vram) 16384) (eqb (length block) 15)
@@ -48,6 +47,17 @@ module _ (ts : List Test) (other : gives ts VramLength ≡ false) (number : ℕ)
       by true false = rw other
       by false q = refl
 
+  -- The run of a log tests the length of its outcome at entry too.
+  pub run-in-order : (vram outcome : List ℕ) → ifAccepted (runEntry block vram outcome) (resultAfter (vramTest vram ∷ ts) number) (numberOf (runEntry block vram outcome) * 256) ≡ resultAfter (sliceTest blockSize block ∷ sliceTest outcomeSize outcome ∷ vramTest vram ∷ ts) number
+  unfolding runEntry
+  run-in-order vram outcome = by (eqb (length vram) 16384) (eqb (length block) 15) (eqb (length outcome) 4)
+    where
+      by : (p q o : Bool) → let entry = refusalOf (long p ∷ fits q ∷ fits o ∷ []) in ifAccepted entry (resultAfter (long p ∷ ts) number) (numberOf entry * 256) ≡ resultAfter (fits q ∷ fits o ∷ long p ∷ ts) number
+      by true true true = refl
+      by true true false = rw other
+      by true false o = rw other
+      by false q o = refl
+
   pub block-in-order : ifAccepted (blockEntry block) (resultAfter ts number) (numberOf (blockEntry block) * 256) ≡ resultAfter (sliceTest blockSize block ∷ ts) number
   unfolding blockEntry
   block-in-order = by (eqb (length block) 15)
@@ -56,7 +66,7 @@ module _ (ts : List Test) (other : gives ts VramLength ≡ false) (number : ℕ)
       by true = refl
       by false = rw other
 
--- So it is for each of the thirteen calls, whatever bytes and lists are lent.
+-- So it is for each of the fourteen calls, whatever bytes and lists are lent.
 module _ (block : List ℕ) where
   abbrev pub blockTest : Test
   blockTest = sliceTest blockSize block
@@ -120,3 +130,21 @@ module _ (block : List ℕ) where
       pub refresh-order : refresh block vram map frame notes .result ≡ resultAfter (blockTest ∷ drawTests held vram map frame notes) (dueCount (held .redraw) (held .registers) vram map)
       unfolding resultThrough
       refresh-order = vram-in-order drawOthers refl (dueCount (held .redraw) (held .registers) vram map) block vram
+
+    module _ (map line log : List ℕ) where
+      abbrev runsTo : Ran
+      runsTo = direct.runLog held vram map line log
+
+      -- the direct run's numbers in one, by its tests
+      run-result : resultOf (direct.answerOf runsTo) ≡ resultAfter (direct.runTests held vram map line log) (direct.endOf held vram map line log .found)
+      run-result = by (isAccepted (direct.runRefusal held vram map line log)) refl
+        where
+          by : (a : Bool) → isAccepted (direct.runRefusal held vram map line log) ≡ a → resultOf (direct.answerOf runsTo) ≡ resultAfter (direct.runTests held vram map line log) (direct.endOf held vram map line log .found)
+          by true ok = rw ok (ap (λ (n : ℕ). n * 256 + direct.endOf held vram map line log .found) (sym (eqb-true _ _ ok)))
+          by false e = rw e
+
+      pub run-log-order : (outcome : List ℕ) → runLog block vram map line log outcome .result ≡ resultAfter (blockTest ∷ sliceTest outcomeSize outcome ∷ direct.runTests held vram map line log) (direct.endOf held vram map line log .found)
+      unfolding resultThrough
+      run-log-order outcome =
+          ap (λ (n : ℕ). ifAccepted (runEntry block vram outcome) n (numberOf (runEntry block vram outcome) * 256)) run-result
+          ∙ run-in-order (sliceTest mapSize map ∷ stateTest held ∷ direct.runOwnTests line log) refl (direct.endOf held vram map line log .found) block vram outcome

@@ -12,6 +12,7 @@ use chip::Refusal;
 
 mod frames;
 mod lines;
+mod logs;
 mod snapshots;
 
 // 256 times a refusal's number.

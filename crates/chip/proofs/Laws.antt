@@ -4,5 +4,7 @@ pub mod Ranges
 pub mod Bits
 pub mod Refusals
 pub mod State
+pub mod Registers
+pub mod Ready
 pub mod Tables
 pub mod Layout

@@ -8,7 +8,7 @@ use Rattle.chip.specs.State.{vramSize, wellFormed}
 use Rattle.chip.specs.declared.state.Chip.{Chip}
 use Rattle.chip.specs.declared.refusal.Answer.{Answer}
 use Rattle.chip.specs.declared.refusal.Refusal.{Refusal}
-use Rattle.chip.specs.declared.refusal.Refusal.the-variants.{Accepted, VramLength, SliceLength, IllFormed, LineNumber, SnapshotLength, Trailer, Checksum}
+use Rattle.chip.specs.declared.refusal.Refusal.the-variants.{Accepted, VramLength, SliceLength, IllFormed, LineNumber, SnapshotLength, Trailer, Checksum, LogForm, LogRecord}
 
 -- The number of each refusal.
 abbrev pub numberOf : Refusal → ℕ
@@ -20,13 +20,15 @@ numberOf LineNumber = 4
 numberOf SnapshotLength = 5
 numberOf Trailer = 6
 numberOf Checksum = 7
+numberOf LogForm = 8
+numberOf LogRecord = 9
 
 abbrev pub isAccepted : Refusal → Bool
 isAccepted r = eqb (numberOf r) 0
 
 -- Which refusal a call gives if several tests fail: the earliest in this list.
 abbrev pub order : List Refusal
-order = VramLength ∷ SliceLength ∷ SnapshotLength ∷ Trailer ∷ Checksum ∷ IllFormed ∷ LineNumber ∷ []
+order = VramLength ∷ SliceLength ∷ SnapshotLength ∷ Trailer ∷ Checksum ∷ IllFormed ∷ LineNumber ∷ LogForm ∷ LogRecord ∷ []
 
 -- A test that a call makes: the refusal that it gives where it does not pass.
 pub record Test : Type 0 where

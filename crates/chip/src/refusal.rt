@@ -12,6 +12,8 @@ pub enum Refusal {
     SnapshotLength,
     Trailer,
     Checksum,
+    LogForm,
+    LogRecord,
 }
 
 // The next state, why the call was refused if it was, and the byte or other number read.
@@ -34,6 +36,8 @@ impl Refusal {
             Refusal::SnapshotLength => 5,
             Refusal::Trailer => 6,
             Refusal::Checksum => 7,
+            Refusal::LogForm => 8,
+            Refusal::LogRecord => 9,
         }
     }
 }

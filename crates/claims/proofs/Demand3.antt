@@ -6,13 +6,13 @@ use borrow.Author.Tests.{eq-eqb}
 use Rattle.chip.specs.Refusals.{numberOf, refusalOf}
 use Rattle.chip.specs.declared.refusal.Refusal.the-variants.{Accepted}
 use Rattle.chip.proofs.Laws.Refusals.{all-accepted}
+use Rattle.chip.proofs.Laws.Ready.{Ready}
 use Rattle.claims.specs.Bench.{Bench, Lengths, Typed}
 use Rattle.claims.specs.Call.{Op, fullDraw, refresh, direct, Call, whole}
 use Rattle.claims.specs.Description.{tests}
 use Rattle.claims.specs.Descriptions.{described}
 use Rattle.claims.specs.Step.{Step, step, run, CallsBytes}
 use Rattle.claims.specs.After.{RefreshIsFullDraw}
-use Rattle.claims.proofs.Laws.States.{Ready}
 use Rattle.claims.proofs.Laws.Invariant.{Invariant, drawn, refreshed-drawn}
 use Rattle.claims.proofs.Laws.Draws.{full-drawn, due-drawn}
 use Rattle.claims.proofs.Laws.Steps.{accepted-step, step-establishes, run-keeps}
@@ -27,7 +27,7 @@ full-draw b ready lengths =
 -- an accepted refresh of a bench with the invariant leaves what a full draw leaves
 refresh-drawn : (b : Bench) → Invariant b → (call : Call) → call .op ≡ refresh → step b call .reply .refusal ≡ 0 → step b call .bench ≡ drawn (b .chip) (b .vram)
 refresh-drawn b inv call is accepted =
-    let out = accepted-step b (inv .ready .fits) call is accepted in
+    let out = accepted-step b (inv .ready .fits) call is tt accepted in
     ap (λ (s : Step). s .bench) (out .1) ∙ due-drawn b (all-accepted (tests (described refresh) b) (out .0)) ∙ refreshed-drawn inv
 
 -- an accepted refresh of a bench with the invariant is a full draw

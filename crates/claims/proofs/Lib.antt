@@ -2,7 +2,8 @@
 pub mod Cases
 pub mod Demand3
 pub mod RefreshedLines
-pub mod AfterAnyCalls
 pub mod RefusedCalls
+pub mod AfterAnyCalls
+pub mod LogRuns
 pub mod AnyBlock
 pub mod Laws

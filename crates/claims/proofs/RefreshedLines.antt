@@ -58,7 +58,7 @@ module _ (b : Bench) (long : length (b .frame) ≡ 49152) (l : ℕ) (below : l <
 -- of a full draw.
 pub refresh-due-lines : (b : Bench) → Fits (b .chip) → (call : Call) → call .op ≡ refresh → step b call .reply .refusal ≡ 0 → RefreshesDueLines b (step b call)
 refresh-due-lines b fits call is accepted =
-    let out = accepted-step b fits call is accepted in
+    let out = accepted-step b fits call is tt accepted in
     let ok = all-accepted (tests (described refresh) b) (out .0) in
     let same : step b call .bench ≡ refreshed b = ap (λ (s : Step). s .bench) (out .1) ∙ due-drawn b ok in
     let long : length (b .frame) ≡ 49152 = eqb-true _ _ (out .0 .1 .1 .0) in

@@ -2,11 +2,12 @@
 use Prim.Native.Nat.{ℕ, _<_}
 use mathlib.Core.Path.{_≡_}
 use mathlib.Core.Bool.{Bool, true, false, _&&_, _||_}
-use mathlib.Core.List.{List, [], _∷_}
+use mathlib.Core.List.{List, [], _∷_, _++_}
 use lib.ListN.{length, getD, replicate}
 use Rattle.chip.specs.State.{wellFormed}
 use Rattle.chip.specs.Map.{mapSize}
 use Rattle.chip.specs.Refusals.{numberOf, refusalOf}
+use Rattle.chip.specs.declared.refusal.Refusal.the-variants.{Accepted}
 use Rattle.scanline.specs.Calls.{noteAt, colours}
 use Rattle.frame.specs.Lines.{lineCount, frameSize, notesSize, lineAt}
 use Rattle.frame.specs.Due.{due, dueCount}
@@ -44,14 +45,24 @@ otherList takes lists =
 abbrev pub wronglyLent : Call → Bool
 wronglyLent call = otherBlock (call .caller) || otherList (described (call .op) .takes) (call .lists)
 
+-- That the numbers of a call fit where its caller has them: a direct call hands them back as they are.
+abbrev pub FitNumbers : Caller → Description → List ℕ → Type 0
+FitNumbers direct d vram = Unit {0}
+FitNumbers (fromC block) d vram = d .fromC .NumbersFit vram
+
+-- What there is to a call from C alone is right: a slice for numbers passes its tests, and the numbers fit into their bytes. (Of
+-- every call but the run of a log this asks nothing.)
+abbrev pub RightFromC : Op → List ℕ → Type 0
+RightFromC op vram = (refusalOf (described op .fromC .tests) ≡ Accepted) × described op .fromC .NumbersFit vram
+
 -- A bench in order: its state is well-formed, all values fit their types and all lists have their lengths. So a call that
--- is lent the bench's lists, directly or from C, is refused only by the tests of what it brings.
+-- is lent the bench's lists is refused only by the tests of what it brings, and from C by those of what is lent from C alone.
 abbrev pub InOrder : Bench → Type 0
 InOrder b =
     (wellFormed (b .chip) ≡ true)
     × Typed b
     × Lengths b
-    × ((op : Op) → let n = numberOf (refusalOf (described op .brings .tests (b .chip))) in (step b (whole op direct) .reply .refusal ≡ n) × (step b (whole op (fromC own)) .reply .refusal ≡ n))
+    × ((op : Op) → let own-tests = described op .brings .tests (b .chip) in (step b (whole op direct) .reply .refusal ≡ numberOf (refusalOf own-tests)) × (described op .fromC .NumbersFit (b .vram) → step b (whole op (fromC own)) .reply .refusal ≡ numberOf (refusalOf (described op .fromC .tests ++ own-tests))))
 
 -- Every refresh of b that is accepted, called directly or from C, leaves the same bench (state, VRAM, map, frame and notes) as a
 -- full draw from the same state and VRAM into any map, frame and notes of the right lengths; and that full draw is accepted.

@@ -8,7 +8,8 @@ use Rattle.chip.specs.Map.{mapSize}
 use Rattle.chip.specs.Layout.{blockSize}
 use Rattle.frame.specs.Lines.{frameSize, notesSize}
 
--- A call with what is its own: bytes written, the slice for a line and the line's number, a snapshot.
+-- A call with what is its own: bytes written, the slice for a line and the line's number, a snapshot, a log. (For a run of a
+-- log: the slice for lines, the log, and the slice for the outcome, which is lent from C alone.)
 pub data Op : Type 0 where
   powerUp : Op
   controlWrite : ℕ → Op
@@ -23,6 +24,7 @@ pub data Op : Type 0 where
   refresh : Op
   readSnapshot : List ℕ → Op
   writeSnapshot : List ℕ → Op
+  runLog : List ℕ → List ℕ → List ℕ → Op
 
 -- What is lent in place of a list of n bytes: the bench's own, or another list of the wrong length.
 pub data Lent (n : ℕ) : Type 0 where

@@ -1,12 +1,15 @@
 -- What is said of a call, once for each call: what it is lent, what it tests, what it answers, and the call itself.
 use Prim.Native.Nat.{ℕ, _/_, _%_, _<_}
-use mathlib.Core.Bool.{Bool, true, false}
+use mathlib.Core.Bool.{Bool, true, false, cond}
 use mathlib.Core.List.{List, [], _∷_}
+use lib.Dec.{eqb}
 use Rattle.chip.specs.Map.{mapSize}
 use Rattle.chip.specs.Refusals.{Test, numberOf, vramTest, sliceTest, stateTest}
 use Rattle.chip.specs.declared.state.Chip.{Chip}
 use Rattle.chip.specs.declared.refusal.Answer.{Answer}
 use Rattle.frame.specs.Lines.{frameSize, notesSize}
+use Rattle.snapshot.specs.Tests.{pairAt}
+use Rattle.log.specs.declared.running.Ran.{Ran}
 use Rattle.birdcleft.specs.Calls.{FromC}
 use Rattle.claims.specs.Bench.{Bench}
 
@@ -32,7 +35,7 @@ pub record Takes : Type 0 where
   pub frame : Bool
   pub notes : Bool
 
--- What a call brings that is its own: bytes to write, slices to fill, a line's number, a snapshot.
+-- What a call brings that is its own: bytes to write, slices to fill, a line's number, a snapshot, a log.
 pub record Brings : Type 1 where
   -- The tests of it, which may look at the state too.
   pub tests : Chip → List Test
@@ -41,6 +44,13 @@ pub record Brings : Type 1 where
   -- That the bytes which the call is to read are bytes.
   pub AreBytes : Type 0
 
+-- What there is to a call from C alone.
+pub record OnlyFromC : Type 1 where
+  -- The tests of a slice for numbers that the direct call hands back.
+  pub tests : List Test
+  -- What VRAM has to hold, and what the call has to bring, for its numbers to fit into the bytes that they are answered in.
+  pub NumbersFit : List ℕ → Type 0
+
 -- A law of each call (`Lawful`, in proofs/) is that the tests which `takes`, `testsState` and `brings` give are those of its
 -- definition.
 pub record Description : Type 1 where
@@ -48,6 +58,7 @@ pub record Description : Type 1 where
   -- Whether it tests that the state is well-formed.
   pub testsState : Bool
   pub brings : Brings
+  pub fromC : OnlyFromC
   -- How many numbers it answers.
   pub numbers : ℕ
   -- Whether it establishes the invariant of demand 3: accepted on a bench of which nothing is known but lengths and types, it
@@ -91,6 +102,10 @@ nothing = record { tests = λ c. []; slices = []; AreBytes = Unit {0} }
 abbrev pub aByte : ℕ → Brings
 aByte x = record { tests = λ c. []; slices = []; AreBytes = x < 256 }
 
+-- One result for all numbers, and they fit by the state's types.
+abbrev pub nothingMore : OnlyFromC
+nothingMore = record { tests = []; NumbersFit = λ vram. Unit {0} }
+
 -- State and numbers that a call hands back.
 pub record Returned (S : Type 0) : Type 0 where
   pub state : S
@@ -106,6 +121,20 @@ ofResult block n = record { state = block; refusal = n / 256; values = n % 256 �
 
 abbrev pub ofFromC : FromC → Returned (List ℕ)
 ofFromC r = ofResult (r .block) (r .result)
+
+-- A run answers three numbers: the byte found, the records done, and the place.
+abbrev pub ofRan : Ran → Returned Chip
+ofRan r = record { state = r .chip; refusal = numberOf (r .refusal); values = r .found ∷ r .done ∷ r .place ∷ [] }
+
+-- From C the last two stand in the outcome, where it is accepted. (What the outcome holds after a refused run, the contract of the
+-- call says: it is as lent.)
+abbrev pub ofOutcome : FromC → List ℕ → Returned (List ℕ)
+ofOutcome r outcome =
+    record {
+      state = r .block;
+      refusal = r .result / 256;
+      values = r .result % 256 ∷ cond (eqb (r .result / 256) 0) (pairAt outcome 0 ∷ pairAt outcome 2 ∷ []) (0 ∷ 0 ∷ []);
+    }
 
 module _ {S : Type 0} where
   -- What is left, list by list.
@@ -135,6 +164,10 @@ module _ {S : Type 0} where
   -- One that changes VRAM and map.
   abbrev pub writes : Bench → Returned S → List ℕ → List ℕ → Left S
   writes b a vram map = leaves a vram map (b .frame) (b .notes) []
+
+  -- One that changes VRAM and map, and fills slices of its own.
+  abbrev pub runs : Bench → Returned S → List ℕ → List ℕ → List (List ℕ) → Left S
+  runs b a vram map slices = leaves a vram map (b .frame) (b .notes) slices
 
   -- One that changes map, frame and notes.
   abbrev pub draws : Bench → Returned S → List ℕ → List ℕ → List ℕ → Left S

@@ -2,16 +2,19 @@
 use mathlib.Core.Bool.{true, false}
 use mathlib.Core.List.{[], _∷_}
 use Rattle.chip.specs.State.{Bytes}
+use Rattle.chip.specs.Refusals.{sliceTest}
 use Rattle.chip.specs.Calls as chip
 use Rattle.scanline.specs.Calls as scanline
 use Rattle.frame.specs.Calls as frame
 use Rattle.snapshot.specs.Calls as snapshot
+use Rattle.log.specs.Run as logs
 use Rattle.birdcleft.specs.Calls as c-ports
 use Rattle.birdcleft.specs.Lines as c-lines
 use Rattle.birdcleft.specs.Frames as c-frames
 use Rattle.birdcleft.specs.Snapshots as c-snapshots
+use Rattle.birdcleft.specs.Logs as c-logs
 use Rattle.claims.specs.Call.{Op}
-use Rattle.claims.specs.Description.{Description, noList, vramAlone, vramAndMap, allLists, nothing, aByte, ofAnswer, ofResult, ofFromC, answers, fills, replaces, writes, draws}
+use Rattle.claims.specs.Description.{Description, noList, vramAlone, vramAndMap, allLists, nothing, aByte, nothingMore, ofAnswer, ofResult, ofFromC, ofRan, ofOutcome, answers, fills, replaces, writes, runs, draws}
 
 abbrev pub described : Op → Description
 described Op.powerUp =
@@ -19,6 +22,7 @@ described Op.powerUp =
       takes = vramAlone;
       testsState = false;
       brings = nothing;
+      fromC = nothingMore;
       numbers = 1;
       establishes = true;
       directly = λ b. replaces b (ofAnswer (chip.powerUp (b .chip) (b .vram))) (chip.powerUpVram (b .vram));
@@ -29,6 +33,7 @@ described (Op.controlWrite x) =
       takes = vramAlone;
       testsState = true;
       brings = aByte x;
+      fromC = nothingMore;
       numbers = 1;
       establishes = false;
       directly = λ b. answers b (ofAnswer (chip.controlWrite (b .chip) (b .vram) x));
@@ -39,6 +44,7 @@ described (Op.dataWrite x) =
       takes = vramAndMap;
       testsState = true;
       brings = aByte x;
+      fromC = nothingMore;
       numbers = 1;
       establishes = false;
       directly = λ b.
@@ -55,6 +61,7 @@ described Op.dataRead =
       takes = vramAlone;
       testsState = true;
       brings = nothing;
+      fromC = nothingMore;
       numbers = 1;
       establishes = false;
       directly = λ b. answers b (ofAnswer (chip.dataRead (b .chip) (b .vram)));
@@ -65,6 +72,7 @@ described Op.statusRead =
       takes = noList;
       testsState = true;
       brings = nothing;
+      fromC = nothingMore;
       numbers = 1;
       establishes = false;
       directly = λ b. answers b (ofAnswer (chip.statusRead (b .chip)));
@@ -75,6 +83,7 @@ described Op.endOfDisplay =
       takes = noList;
       testsState = true;
       brings = nothing;
+      fromC = nothingMore;
       numbers = 1;
       establishes = false;
       directly = λ b. answers b (ofAnswer (chip.endOfDisplay (b .chip)));
@@ -85,6 +94,7 @@ described Op.interruptLine =
       takes = noList;
       testsState = true;
       brings = nothing;
+      fromC = nothingMore;
       numbers = 1;
       establishes = false;
       directly = λ b. answers b (ofAnswer (chip.interruptLine (b .chip)));
@@ -95,6 +105,7 @@ described Op.reset =
       takes = noList;
       testsState = true;
       brings = nothing;
+      fromC = nothingMore;
       numbers = 1;
       establishes = true;
       directly = λ b. answers b (ofAnswer (chip.reset (b .chip)));
@@ -105,6 +116,7 @@ described (Op.drawLine line l) =
       takes = vramAlone;
       testsState = true;
       brings = record { tests = λ c. scanline.drawLineOwnTests line l; slices = line ∷ []; AreBytes = Unit {0} };
+      fromC = nothingMore;
       numbers = 1;
       establishes = false;
       directly = λ b.
@@ -119,6 +131,7 @@ described Op.fullDraw =
       takes = allLists;
       testsState = true;
       brings = nothing;
+      fromC = nothingMore;
       numbers = 1;
       establishes = true;
       directly = λ b.
@@ -135,6 +148,7 @@ described Op.refresh =
       takes = allLists;
       testsState = true;
       brings = nothing;
+      fromC = nothingMore;
       numbers = 1;
       establishes = false;
       directly = λ b.
@@ -151,6 +165,7 @@ described (Op.readSnapshot s) =
       takes = vramAlone;
       testsState = false;
       brings = record { tests = λ c. snapshot.fileTests s; slices = []; AreBytes = Bytes s };
+      fromC = nothingMore;
       numbers = 1;
       establishes = true;
       directly = λ b. replaces b (ofAnswer (snapshot.readSnapshot (b .chip) (b .vram) s)) (snapshot.readVram (b .vram) s);
@@ -161,10 +176,30 @@ described (Op.writeSnapshot s) =
       takes = vramAlone;
       testsState = true;
       brings = record { tests = λ c. snapshot.outputTests s; slices = s ∷ []; AreBytes = Unit {0} };
+      fromC = nothingMore;
       numbers = 1;
       establishes = false;
       directly = λ b. fills b (ofAnswer (snapshot.writeSnapshot (b .chip) (b .vram) s)) (snapshot.written (b .chip) (b .vram) s ∷ []);
       throughC = λ block b.
           fills b (ofResult block (c-snapshots.writeSnapshot block (b .vram) s))
           (c-snapshots.written block (b .vram) s ∷ []);
+    }
+described (Op.runLog line log outcome) =
+    record {
+      takes = vramAndMap;
+      testsState = true;
+      brings = record { tests = λ c. logs.runOwnTests line log; slices = line ∷ []; AreBytes = Bytes log };
+      fromC = record { tests = sliceTest c-logs.outcomeSize outcome ∷ []; NumbersFit = λ vram. Bytes vram × Bytes log };
+      numbers = 3;
+      establishes = false;
+      directly = λ b.
+          runs b (ofRan (logs.runLog (b .chip) (b .vram) (b .map) line log))
+          (logs.runVram (b .chip) (b .vram) (b .map) line log)
+          (logs.runMap (b .chip) (b .vram) (b .map) line log)
+          (logs.runLine (b .chip) (b .vram) (b .map) line log ∷ []);
+      throughC = λ block b.
+          runs b (ofOutcome (c-logs.runLog block (b .vram) (b .map) line log outcome) (c-logs.runOutcome block (b .vram) (b .map) line log outcome))
+          (c-logs.runVram block (b .vram) (b .map) line log outcome)
+          (c-logs.runMap block (b .vram) (b .map) line log outcome)
+          (c-logs.runLine block (b .vram) (b .map) line log outcome ∷ []);
     }

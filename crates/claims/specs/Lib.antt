@@ -6,3 +6,4 @@ pub mod Description
 pub mod Descriptions
 pub mod Step
 pub mod After
+pub mod SingleCalls

@@ -16,7 +16,7 @@ use Rattle.snapshot.specs.Format.{snapshotSize}
 use Rattle.snapshot.specs.Calls.{readRefusal}
 use Rattle.input.specs.Came.{bufferSize, cameIn, Came}
 
-pub longer-is-refused : (vram buffer : List ℕ) → length vram ≡ vramSize → Came bufferSize buffer → readRefusal vram (cameIn bufferSize buffer) ≡ SnapshotLength
+pub longer-is-refused : (vram buffer : List ℕ) → length vram ≡ vramSize → Came bufferSize bufferSize buffer → readRefusal vram (cameIn bufferSize buffer) ≡ SnapshotLength
 longer-is-refused vram buffer full came =
     let all = length-take-le bufferSize buffer (omega arith) in
     rw (eq-eqb (length vram) vramSize full, ne-eqb (length (cameIn bufferSize buffer)) snapshotSize (λ e. omega arith))

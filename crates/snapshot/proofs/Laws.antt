@@ -6,3 +6,4 @@ pub mod Filling
 pub mod Refusals
 pub mod Written
 pub mod Accepted
+pub mod Held

@@ -1,9 +1,12 @@
 // Snapshots: VRAM and the state as one file, with a trailer that points back and a sum.
-mod checksum;
 mod parts;
 mod reading;
+mod sums;
 mod trailer;
 mod writing;
 
 pub use reading::read;
+pub use sums::checksum;
+pub use trailer::low_first;
+pub use trailer::pair_at;
 pub use writing::write;

@@ -2,9 +2,9 @@
 ghost use mathlib.Core.Path.{_≡_};
 ghost use Prim.Native.Nat.{_+_, _≤_, _<_};
 ghost use lib.ListN.{length};
-ghost use Rattle.snapshot.specs.Format.{pointers};
+ghost use Rattle.snapshot.specs.Format.{lowFirst, pointers};
 ghost use Rattle.snapshot.specs.Tests.{pairAt, pointsBack, sumRight};
-use crate::checksum::checksum;
+use crate::sums::checksum;
 
 // The signature, and the distances back to the state (14) and to VRAM (16,398), low byte first.
 pub fn pointer_bytes() -> [u8; 6]
@@ -14,11 +14,18 @@ pub fn pointer_bytes() -> [u8; 6]
 }
 
 // The number in two bytes, low first.
-fn pair_at(s: &[u8], i: usize) -> u16
+pub fn pair_at(s: &[u8], i: usize) -> u16
     requires { ⌜ i + 1 < length (now s) ⌝ }
     ensures { λ r. ⌜ r ≡ pairAt (now (s .entry)) i ⌝ }
 {
     s[i] as u16 + 256 * (s[i + 1] as u16)
+}
+
+// A number as two bytes, low first.
+pub fn low_first(n: u16) -> [u8; 2]
+    ensures { λ r. ⌜ r ≡ lowFirst n ⌝ }
+{
+    [(n % 256) as u8, (n / 256) as u8]
 }
 
 // Whether the signature and both distances are right.

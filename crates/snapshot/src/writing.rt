@@ -3,7 +3,8 @@ ghost use mathlib.Core.Path.{_≡_};
 ghost use lib.ListN.{length};
 ghost use Rattle.snapshot.specs.Format.{snapshotOf};
 ghost use Rattle.snapshot.specs.Calls.{writeSnapshot, written};
-use crate::checksum::checksum;
+use crate::sums::checksum;
+use crate::trailer::low_first;
 use crate::trailer::pointer_bytes;
 use chip::Answer;
 use chip::Chip;
@@ -22,9 +23,8 @@ fn fill(chip: Chip, vram: &[u8], out: &mut [u8])
     let pointers = pointer_bytes();
     put(out, trailer, &pointers);
     let field = trailer + 6;
-    let sum = checksum(&out[..field]);
-    let bytes = [(sum % 256) as u8, (sum / 256) as u8];
-    put(out, field, &bytes);
+    let sum = low_first(checksum(&out[..field]));
+    put(out, field, &sum);
 }
 
 pub fn write(chip: Chip, vram: &[u8], out: &mut [u8]) -> Answer

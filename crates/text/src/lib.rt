@@ -6,6 +6,9 @@ mod runs;
 mod status;
 mod walk;
 
+pub use numbers::put_decimal;
+pub use numbers::put_long_decimal;
+pub use refusal::put_refused;
 pub use refusal::refusal_line;
 pub use walk::Piece;
 pub use walk::Walk;

@@ -8,9 +8,9 @@ use lib.Dec.{eqb, lit≤}
 use Rattle.chip.specs.Refusals.{numberOf, isAccepted, order, Test, gives, firstGiven, refusalOf, ifAccepted}
 use Rattle.chip.proofs.Laws.Ranges.{and-false}
 use Rattle.chip.specs.declared.refusal.Refusal.{Refusal}
-use Rattle.chip.specs.declared.refusal.Refusal.the-variants.{Accepted, VramLength, SliceLength, IllFormed, LineNumber, SnapshotLength, Trailer, Checksum}
+use Rattle.chip.specs.declared.refusal.Refusal.the-variants.{Accepted, VramLength, SliceLength, IllFormed, LineNumber, SnapshotLength, Trailer, Checksum, LogForm, LogRecord}
 
-pub number-small : (r : Refusal) → numberOf r ≤ 7
+pub number-small : (r : Refusal) → numberOf r ≤ 9
 number-small Accepted = lit≤ tt
 number-small VramLength = lit≤ tt
 number-small SliceLength = lit≤ tt
@@ -19,6 +19,8 @@ number-small LineNumber = lit≤ tt
 number-small SnapshotLength = lit≤ tt
 number-small Trailer = lit≤ tt
 number-small Checksum = lit≤ tt
+number-small LogForm = lit≤ tt
+number-small LogRecord = lit≤ tt
 
 -- a test that passes decides nothing
 pub passed : (t : Test) (ts : List Test) → t .passes ≡ true → refusalOf (t ∷ ts) ≡ refusalOf ts
@@ -41,6 +43,8 @@ is-accepted LineNumber h = absurd (differ (sym h))
 is-accepted SnapshotLength h = absurd (differ (sym h))
 is-accepted Trailer h = absurd (differ (sym h))
 is-accepted Checksum h = absurd (differ (sym h))
+is-accepted LogForm h = absurd (differ (sym h))
+is-accepted LogRecord h = absurd (differ (sym h))
 
 -- what an accepted call leaves is the new
 module _ {A : Type 0} {r : Refusal} (ok : r ≡ Accepted) (new old : A) where
@@ -76,26 +80,34 @@ peel : (g : Bool) (r rest : Refusal) → isAccepted r ≡ false → isAccepted (
 peel true r rest n e = absurd (differ (sym e ∙ n))
 peel false r rest n e = (refl, e)
 
+-- that no test gives one of these refusals
+abbrev NoneGiven : List Test → List Refusal → Type 0
+NoneGiven ts [] = Unit {0}
+NoneGiven ts (r ∷ rs) = (gives ts r ≡ false) × NoneGiven ts rs
+
+-- that these are refusals, and not the acceptance
+abbrev Refusing : List Refusal → Type 0
+Refusing [] = Unit {0}
+Refusing (r ∷ rs) = (isAccepted r ≡ false) × Refusing rs
+
+none-of : (ts : List Test) (rs : List Refusal) → Refusing rs → isAccepted (firstGiven rs ts) ≡ true → NoneGiven ts rs
+none-of ts [] n e = tt
+none-of ts (r ∷ rs) n e = let p = peel (gives ts r) r (firstGiven rs ts) (n .0) e in (p .0, none-of ts rs (n .1) (p .1))
+
 nothing-given : (ts : List Test) → isAccepted (refusalOf ts) ≡ true → (r : Refusal) → isAccepted r ≡ false → gives ts r ≡ false
-nothing-given ts e =
-    let a = peel (gives ts VramLength) VramLength _ refl e in
-    let b = peel (gives ts SliceLength) SliceLength _ refl (a .1) in
-    let c = peel (gives ts SnapshotLength) SnapshotLength _ refl (b .1) in
-    let d = peel (gives ts Trailer) Trailer _ refl (c .1) in
-    let f = peel (gives ts Checksum) Checksum _ refl (d .1) in
-    let g = peel (gives ts IllFormed) IllFormed _ refl (f .1) in
-    let h = peel (gives ts LineNumber) LineNumber _ refl (g .1) in
-    by (a .0) (b .0) (c .0) (d .0) (f .0) (g .0) (h .0)
+nothing-given ts e = by (none-of ts order (refl, (refl, (refl, (refl, (refl, (refl, (refl, (refl, (refl, tt))))))))) e)
   where
-    by : gives ts VramLength ≡ false → gives ts SliceLength ≡ false → gives ts SnapshotLength ≡ false → gives ts Trailer ≡ false → gives ts Checksum ≡ false → gives ts IllFormed ≡ false → gives ts LineNumber ≡ false → (r : Refusal) → isAccepted r ≡ false → gives ts r ≡ false
-    by a b c d f g h Accepted n = absurd (differ n)
-    by a b c d f g h VramLength n = a
-    by a b c d f g h SliceLength n = b
-    by a b c d f g h IllFormed n = g
-    by a b c d f g h LineNumber n = h
-    by a b c d f g h SnapshotLength n = c
-    by a b c d f g h Trailer n = d
-    by a b c d f g h Checksum n = f
+    by : NoneGiven ts order → (r : Refusal) → isAccepted r ≡ false → gives ts r ≡ false
+    by none Accepted n = absurd (differ n)
+    by none VramLength n = none .0
+    by none SliceLength n = none .1 .0
+    by none SnapshotLength n = none .1 .1 .0
+    by none Trailer n = none .1 .1 .1 .0
+    by none Checksum n = none .1 .1 .1 .1 .0
+    by none IllFormed n = none .1 .1 .1 .1 .1 .0
+    by none LineNumber n = none .1 .1 .1 .1 .1 .1 .0
+    by none LogForm n = none .1 .1 .1 .1 .1 .1 .1 .0
+    by none LogRecord n = none .1 .1 .1 .1 .1 .1 .1 .1 .0
 
 passes-all : (ts : List Test) → AllRefuse ts → ((r : Refusal) → isAccepted r ≡ false → gives ts r ≡ false) → AllPass ts
 passes-all [] n h = tt

@@ -12,6 +12,8 @@ use Rattle.chip.specs.declared.state.Chip.{Chip}
 use Rattle.chip.proofs.Laws.Lists.{length-tabulate}
 use Rattle.chip.proofs.Laws.Refusals.{differ}
 use Rattle.chip.proofs.Laws.State.{address-in}
+use Rattle.chip.proofs.Laws.Registers.{bytes-set}
+use Rattle.chip.proofs.Laws.Ready.{Ready, ready-written}
 use Rattle.fetches.specs.Fetch.{value}
 use Rattle.scanline.specs.Line.{lineOf, colourAt}
 use Rattle.scanline.specs.Calls.{noteAt, colours}
@@ -21,8 +23,7 @@ use Rattle.frame.specs.Due.{newFrame, newNotes}
 use Rattle.frame.proofs.Laws.Lines.{length-end}
 use Rattle.frame.proofs.Laws.Clean.{Clean, clean-while-redraw, clean-drawn, clean-written, refreshed-frame, refreshed-notes}
 use Rattle.claims.specs.Bench.{Bench, Lengths, Typed}
-use Rattle.claims.proofs.Laws.Registers.{bytes-set}
-use Rattle.claims.proofs.Laws.States.{Ready, ready-written, ready-drawn}
+use Rattle.claims.proofs.Laws.States.{ready-drawn}
 use Rattle.claims.proofs.Laws.ControlWrites.{Redraws, no-line, every-line}
 
 abbrev pub bench : Chip → List ℕ → List ℕ → List ℕ → List ℕ → Bench
@@ -58,7 +59,7 @@ pub record Invariant (b : Bench) : Type 0 where
   pub bytes : Bytes (b .vram)
   pub clean : Clean (b .chip .redraw) (b .chip .registers) (b .vram) (b .map) (b .frame) (b .notes)
 
--- What an accepted call can do to the bench. The first two effects of the five need no invariant before them.
+-- What an accepted call can do to the bench. The first two effects of the six need no invariant before them.
 pub data Effect (establishes : Bool) (b after : Bench) : Type 0 where
   -- The redraw mark is set, whatever becomes of state and VRAM.
   sets-mark : (d : Chip) (vram : List ℕ) → after ≡ withMemory d vram b → Ready d → d .redraw ≡ true → length vram ≡ vramSize → Bytes vram → Effect establishes b after
@@ -67,6 +68,8 @@ pub data Effect (establishes : Bool) (b after : Bench) : Type 0 where
   changes-no-line : (d : Chip) → establishes ≡ false → after ≡ withState d b → Ready d → d .registers ≡ b .chip .registers → d .redraw ≡ b .chip .redraw → Effect establishes b after
   writes-byte : (x : ℕ) → establishes ≡ false → after ≡ written x b → x < 256 → Effect establishes b after
   refreshes : establishes ≡ false → after ≡ refreshed b → Effect establishes b after
+  -- It makes other calls, which keep the invariant.
+  makes-calls : establishes ≡ false → (Invariant b → Invariant after) → Effect establishes b after
 
 -- A change of the state alone.
 pub state-effect : {b after : Bench} (d : Chip) → Lengths b → Typed b → after ≡ withState d b → Ready d → Redraws (b .chip) d → Effect false b after
@@ -146,6 +149,7 @@ module _ {b : Bench} (inv : Invariant b) where
   keeps (draws-all is ready) = subst⁻¹ Invariant is (all-drawn (b .chip) (b .vram) ready (inv .lengths .vram) (inv .bytes))
   keeps (changes-no-line d e is ready r m) = subst⁻¹ Invariant is (no-line-changed d ready r m)
   keeps (writes-byte x e is h) = subst⁻¹ Invariant is (byte-written x h)
+  keeps (makes-calls e kept) = kept inv
   keeps (refreshes e is) = subst⁻¹ Invariant (is ∙ refreshed-drawn) (all-drawn (b .chip) (b .vram) (inv .ready) (inv .lengths .vram) (inv .bytes))
 
 pub establish : {b : Bench} → Lengths b → Typed b → {after : Bench} → Effect true b after → Invariant after
@@ -154,3 +158,4 @@ establish {b} lengths typed (draws-all is ready) = subst⁻¹ Invariant is (all-
 establish lengths typed (changes-no-line d e is ready r m) = absurd (differ e)
 establish lengths typed (writes-byte x e is h) = absurd (differ e)
 establish lengths typed (refreshes e is) = absurd (differ e)
+establish lengths typed (makes-calls e kept) = absurd (differ e)

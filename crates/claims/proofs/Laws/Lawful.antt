@@ -3,19 +3,19 @@ use Prim.Native.Nat.{ℕ, _+_, _*_, _/_, _%_, _<_}
 use native.Mathlib.Omega.{arith}
 use mathlib.Core.Path.{_≡_, refl, sym, ap, _∙_}
 use mathlib.Core.Bool.{Bool, true, false, cond}
-use mathlib.Core.List.{List, [], _∷_}
+use mathlib.Core.List.{List, [], _∷_, _++_}
 use lib.Dec.{eqb, lit<}
 use lib.ListN.{length, getD, replicate}
-use Rattle.chip.specs.State.{Fits}
+use Rattle.chip.specs.State.{Bytes, Fits}
 use Rattle.chip.specs.Layout.{blockSize, blockOf, chipOf}
 use Rattle.chip.specs.Refusals.{Test, numberOf, isAccepted, refusalOf, ifAccepted, vramTest, sliceTest}
 use Rattle.chip.specs.declared.state.Chip.{Chip}
 use Rattle.chip.specs.declared.refusal.Refusal.the-variants.{Accepted}
 use Rattle.chip.proofs.Laws.Layout.{chip-block}
-use Rattle.chip.proofs.Laws.Refusals.{AllPass, AllRefuse}
+use Rattle.chip.proofs.Laws.Refusals.{AllPass, AllRefuse, differ}
+use Rattle.chip.proofs.Laws.Ready.{either-byte}
 use Rattle.claims.specs.Bench.{Bench, Lengths, Typed}
-use Rattle.claims.specs.Description.{Left, Description, testIf, tests, ofResult, leaves}
-use Rattle.claims.proofs.Laws.States.{either-byte}
+use Rattle.claims.specs.Description.{Left, Brings, OnlyFromC, nothingMore, Description, testIf, tests, ofResult, leaves}
 use Rattle.claims.proofs.Laws.Invariant.{bench, withState, Effect}
 
 module _ {S : Type 0} where
@@ -30,19 +30,31 @@ benchOf l = bench (l .state) (l .vram) (l .map) (l .frame) (l .notes)
 abbrev pub decodedLeft : Left (List ℕ) → Left Chip
 decodedLeft l = record { state = chipOf (l .state); vram = l .vram; map = l .map; frame = l .frame; notes = l .notes; reply = l .reply }
 
--- The tests that a call from C makes before it decodes the block: the length of VRAM, where it takes it, and the block's.
+-- The tests that a call from C makes before it decodes the block: the length of VRAM, where it takes it, the block's, and those of
+-- what is lent from C alone.
 abbrev pub entryTests : Description → List ℕ → Bench → List Test
-entryTests d block b = testIf (d .takes .vram) (vramTest (b .vram)) (sliceTest blockSize block ∷ [])
+entryTests d block b = testIf (d .takes .vram) (vramTest (b .vram)) (sliceTest blockSize block ∷ d .fromC .tests)
+
+-- Each test of what is lent from C alone can refuse the call, and where one does, the tests of what it brings do not come before it
+-- in the order. The numbers fit if VRAM holds bytes and the call brings bytes.
+pub record LawfulFromC (o : OnlyFromC) (brings : Brings) : Type 0 where
+  pub can-refuse : AllRefuse (o .tests)
+  pub first : (c : Chip) → isAccepted (refusalOf (o .tests)) ≡ false → refusalOf (o .tests ++ brings .tests c) ≡ refusalOf (o .tests)
+  pub numbers-fit : (vram : List ℕ) → Bytes vram → brings .AreBytes → o .NumbersFit vram
+
+pub nothing-more : {brings : Brings} → LawfulFromC nothingMore brings
+nothing-more = record { can-refuse = tt; first = λ c e. absurd (differ e); numbers-fit = λ vram bytes h. tt }
 
 pub record Lawful (d : Description) : Type 0 where
   -- Its tests are those that its description gives, and each of its own can refuse it.
   pub refusal : (b : Bench) → d .directly b .reply .refusal ≡ numberOf (refusalOf (tests d b))
   pub can-refuse : (c : Chip) → AllRefuse (d .brings .tests c)
+  pub only-from-c : LawfulFromC (d .fromC) (d .brings)
   -- Refused, it leaves everything.
   pub refused : (b : Bench) → isAccepted (refusalOf (tests d b)) ≡ false → d .directly b ≡ asLent d (numberOf (refusalOf (tests d b))) (b .chip) b
   -- From C, refused at entry it leaves everything; past that, with the state's own block, it is the direct call.
   pub not-entered : (block : List ℕ) (b : Bench) → let r = refusalOf (entryTests d block b) in isAccepted r ≡ false → d .throughC block b ≡ asLent d (numberOf r) block b
-  pub entered : (b : Bench) → Fits (b .chip) → let block = blockOf (b .chip) in isAccepted (refusalOf (entryTests d block b)) ≡ true → decodedLeft (d .throughC block b) ≡ d .directly b
+  pub entered : (b : Bench) → Fits (b .chip) → d .fromC .NumbersFit (b .vram) → let block = blockOf (b .chip) in isAccepted (refusalOf (entryTests d block b)) ≡ true → decodedLeft (d .throughC block b) ≡ d .directly b
   -- Accepted, it has one of the effects.
   pub effect : (b : Bench) → d .brings .AreBytes → Lengths b → Typed b → AllPass (tests d b) → refusalOf (tests d b) ≡ Accepted → Effect (d .establishes) b (benchOf (d .directly b))
 

@@ -6,6 +6,7 @@ use mathlib.Core.List.{List}
 use lib.Dec.{eqb}
 use lib.ListN.{length}
 use borrow.Author.Tests.{eqb-true}
+use Rattle.chip.specs.State.{vramSize}
 use Rattle.chip.specs.Refusals.{Test, isAccepted}
 use Rattle.chip.specs.declared.state.Chip.{Chip}
 use Rattle.chip.proofs.Laws.Ranges.{and-false}
@@ -78,6 +79,10 @@ module _ (d : Description) (lists : LentLists) (b : Bench) where
 
     pub back-own : (l : Left Chip) → benchBack (d .takes) lists b (l .state) l ≡ benchOf l
     back-own l = let o = own-lists p in λ i. bench (l .state) (o .vram .stays (l .vram) i) (o .map .stays (l .map) i) (o .frame .stays (l .frame) i) (o .notes .stays (l .notes) i)
+
+  -- VRAM by itself: one that passed the test of its length, or is not taken, is the bench's own.
+  pub vram-own : (d .takes .vram ≡ true → eqb (length (lends .vram)) vramSize ≡ true) → lends .vram ≡ b .vram
+  vram-own passes = is-own (d .takes .vram) (lists .vram) (b .vram) passes .given
 
   -- Where the call was refused, the bench is as it was.
   module _ {S : Type 0} where

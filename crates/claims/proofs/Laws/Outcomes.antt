@@ -2,7 +2,7 @@
 use Prim.Native.Nat.{ℕ}
 use mathlib.Core.Path.{_≡_, refl, sym, ap, subst, subst⁻¹, _∙_}
 use mathlib.Core.Bool.{Bool, true, false, _||_}
-use mathlib.Core.List.{List, [], _∷_}
+use mathlib.Core.List.{List, _∷_}
 use lib.Dec.{eqb}
 use lib.ListN.{length}
 use borrow.Author.Tests.{eqb-true, eqb-false, eq-eqb}
@@ -16,9 +16,9 @@ use Rattle.claims.specs.Bench.{Bench}
 use Rattle.claims.specs.Call.{own, other, LentLists, Caller, direct, fromC}
 use Rattle.claims.specs.Description.{Description, testIf, tests, Left}
 use Rattle.claims.specs.Step.{lentBench, benchBack, Step, stepOf}
-use Rattle.claims.specs.After.{refusedStep, otherBlock, otherList}
+use Rattle.claims.specs.After.{refusedStep, otherBlock, otherList, FitNumbers}
 use Rattle.claims.proofs.Laws.Lawful.{asLent, benchOf, decodedLeft, entryTests, Lawful}
-use Rattle.claims.proofs.Laws.Lent.{passed-if, refuse-if, lent-own, none-other, back-own, back-lent}
+use Rattle.claims.proofs.Laws.Lent.{passed-if, refuse-if, lent-own, none-other, back-own, back-lent, vram-own}
 
 -- a call is refused if its tests do not all pass
 not-accepted : (ts : List Test) → AllRefuse ts → (AllPass ts → ⊥) → isAccepted (refusalOf ts) ≡ false
@@ -28,15 +28,16 @@ not-accepted ts refuse fails = by (isAccepted (refusalOf ts)) refl
     by true e = absurd (fails (all-pass ts refuse e))
     by false e = e
 
--- VRAM's length is first in the order: where it is what refuses a call from C at entry, it refuses the direct call too.
-vram-decides : (f : Bool) (vram block : List ℕ) (ts : List Test) → length block ≡ blockSize
-    → isAccepted (refusalOf (testIf f (vramTest vram) (sliceTest blockSize block ∷ []))) ≡ false
-    → refusalOf (testIf f (vramTest vram) (sliceTest blockSize block ∷ [])) ≡ refusalOf (testIf f (vramTest vram) ts)
-vram-decides false vram block ts fifteen e = absurd (differ (sym (ap isAccepted (all-accepted (sliceTest blockSize block ∷ []) (eq-eqb _ _ fifteen, tt))) ∙ e))
-vram-decides true vram block ts fifteen e = by (eqb (length vram) vramSize) refl
+-- VRAM's length is first in the order: where it is what refuses a call from C at entry, since the other tests, more, pass, it
+-- refuses the direct call too.
+vram-decides : (f : Bool) (vram : List ℕ) (more ts : List Test) → AllPass more
+    → isAccepted (refusalOf (testIf f (vramTest vram) more)) ≡ false
+    → refusalOf (testIf f (vramTest vram) more) ≡ refusalOf (testIf f (vramTest vram) ts)
+vram-decides false vram more ts p e = absurd (differ (sym (ap isAccepted (all-accepted more p)) ∙ e))
+vram-decides true vram more ts p e = by (eqb (length vram) vramSize) refl
   where
-    by : (x : Bool) → eqb (length vram) vramSize ≡ x → refusalOf (vramTest vram ∷ sliceTest blockSize block ∷ []) ≡ refusalOf (vramTest vram ∷ ts)
-    by true ok = absurd (differ (sym (ap isAccepted (all-accepted (vramTest vram ∷ sliceTest blockSize block ∷ []) (ok, (eq-eqb _ _ fifteen, tt)))) ∙ e))
+    by : (x : Bool) → eqb (length vram) vramSize ≡ x → refusalOf (vramTest vram ∷ more) ≡ refusalOf (vramTest vram ∷ ts)
+    by true ok = absurd (differ (sym (ap isAccepted (all-accepted (vramTest vram ∷ more) (ok, p))) ∙ e))
     by false wrong = rw wrong
 
 -- What is left of a direct call, as a step.
@@ -80,28 +81,52 @@ module _ {d : Description} (law : Lawful d) (lists : LentLists) (b : Bench) wher
     abbrev block : List ℕ
     block = blockOf (b .chip)
 
-    -- From C with the state's own block it is the direct call.
-    pub from-c-same : stepOf d (fromC own) lists b ≡ stepOf d direct lists b
-    from-c-same = by (isAccepted (refusalOf (entryTests d block lends))) refl
-      where
-        by : (a : Bool) → isAccepted (refusalOf (entryTests d block lends)) ≡ a → stepOf d (fromC own) lists b ≡ stepOf d direct lists b
-        by true ok = ap back (law .entered lends fits ok)
-        by false e =
-            let same : refusalOf (entryTests d block lends) ≡ refusalOf (tests d lends) = vram-decides (d .takes .vram) (lends .vram) block _ (length-block (b .chip) (fits .eight)) e in
-            ap (λ (l : Left (List ℕ)). back (decodedLeft l)) (law .not-entered block lends e)
-            ∙ (λ i. back (asLent d (numberOf (same i)) (chip-block (b .chip) (fits .eight) i) lends))
-            ∙ sym (ap back (law .refused lends (sym (ap isAccepted same) ∙ e)))
+    -- The tests at entry can each refuse the call.
+    entry-refuse : (k : List ℕ) → AllRefuse (entryTests d k lends)
+    entry-refuse k = refuse-if (d .takes .vram) _ _ refl (refl, law .only-from-c .can-refuse)
 
-    -- From C with a block of the wrong length it is refused.
+    -- Refused at entry, with the state's own block or one of the wrong length.
+    pub not-entered-own : isAccepted (refusalOf (entryTests d block lends)) ≡ false → stepOf d (fromC own) lists b ≡ refusedStep d (numberOf (refusalOf (entryTests d block lends))) b
+    not-entered-own e =
+        let n = numberOf (refusalOf (entryTests d block lends)) in
+        ap (λ (l : Left (List ℕ)). back (decodedLeft l)) (law .not-entered block lends e)
+        ∙ (λ i. back (asLent d n (chip-block (b .chip) (fits .eight) i) lends))
+        ∙ left-all n
+
     wrong-block : (k : List ℕ) (wrong : length k ≡ blockSize → ⊥) → Outcome d true b (stepOf d (fromC (other k wrong)) lists b)
     wrong-block k wrong =
-        let refuse : AllRefuse (entryTests d k lends) = refuse-if (d .takes .vram) _ _ refl (refl, tt) in
-        let e = not-accepted (entryTests d k lends) refuse (λ p. wrong (eqb-true _ _ (passed-if (d .takes .vram) _ _ p .1 .0))) in
+        let e = not-accepted (entryTests d k lends) (entry-refuse k) (λ p. wrong (eqb-true _ _ (passed-if (d .takes .vram) _ _ p .1 .0))) in
         let n = numberOf (refusalOf (entryTests d k lends)) in
         let left = law .not-entered k lends e in
         refused n (eqb-false _ _ e) ((λ i. record { bench = benchBack (d .takes) lists b (b .chip) (left i); reply = left i .reply }) ∙ left-all n)
 
-    pub outcome : (caller : Caller) → Outcome d (otherBlock caller || otherList (d .takes) lists) b (stepOf d caller lists b)
-    outcome direct = directly-out
-    outcome (fromC own) = subst⁻¹ (Outcome d (otherList (d .takes) lists) b) from-c-same directly-out
-    outcome (fromC (other k wrong)) = wrong-block k wrong
+    module _ (numbers : d .fromC .NumbersFit (b .vram)) where
+      -- From C with the state's own block it is the direct call, where what is lent from C alone passes its tests.
+      pub from-c-same : AllPass (d .fromC .tests) → stepOf d (fromC own) lists b ≡ stepOf d direct lists b
+      from-c-same p = by (isAccepted (refusalOf (entryTests d block lends))) refl
+        where
+          by : (a : Bool) → isAccepted (refusalOf (entryTests d block lends)) ≡ a → stepOf d (fromC own) lists b ≡ stepOf d direct lists b
+          by true ok =
+              let vram = vram-own d lists b (passed-if (d .takes .vram) _ _ (all-pass (entryTests d block lends) (entry-refuse block) ok) .0) in
+              ap back (law .entered lends fits (subst⁻¹ (d .fromC .NumbersFit) vram numbers) ok)
+          by false e =
+              let same : refusalOf (entryTests d block lends) ≡ refusalOf (tests d lends) = vram-decides (d .takes .vram) (lends .vram) (sliceTest blockSize block ∷ d .fromC .tests) _ (eq-eqb _ _ (length-block (b .chip) (fits .eight)), p) e in
+              not-entered-own e
+              ∙ (λ i. refusedStep d (numberOf (same i)) b)
+              ∙ sym (ap back (law .refused lends (sym (ap isAccepted same) ∙ e)) ∙ left-all _)
+
+      -- Where it does not, the call is refused.
+      own-block : Outcome d (otherList (d .takes) lists) b (stepOf d (fromC own) lists b)
+      own-block = by (isAccepted (refusalOf (d .fromC .tests))) refl
+        where
+          by : (a : Bool) → isAccepted (refusalOf (d .fromC .tests)) ≡ a → Outcome d (otherList (d .takes) lists) b (stepOf d (fromC own) lists b)
+          by true ok = subst⁻¹ (Outcome d (otherList (d .takes) lists) b) (from-c-same (all-pass (d .fromC .tests) (law .only-from-c .can-refuse) ok)) directly-out
+          by false e =
+              let fails = not-accepted (entryTests d block lends) (entry-refuse block)
+              (λ p. differ (sym (ap isAccepted (all-accepted (d .fromC .tests) (passed-if (d .takes .vram) _ _ p .1 .1))) ∙ e)) in
+              refused _ (eqb-false _ _ fails) (not-entered-own fails)
+
+    pub outcome : (caller : Caller) → FitNumbers caller d (b .vram) → Outcome d (otherBlock caller || otherList (d .takes) lists) b (stepOf d caller lists b)
+    outcome direct numbers = directly-out
+    outcome (fromC own) numbers = own-block numbers
+    outcome (fromC (other k wrong)) numbers = wrong-block k wrong

@@ -12,7 +12,7 @@ use Rattle.chip.specs.declared.state.Chip.{Chip}
 use Rattle.chip.specs.declared.state.Waiting.{Waiting}
 use Rattle.chip.specs.declared.state.Waiting.the-variants.{Nothing, First}
 use Rattle.chip.proofs.Laws.Lists.{bytes-take}
-use Rattle.snapshot.specs.Format.{trailerOf, snapshotOf}
+use Rattle.snapshot.specs.Format.{lowFirst, trailerOf, snapshotOf}
 
 -- that each number of a list is a byte
 AllBytes : List ℕ → Type 0
@@ -25,13 +25,18 @@ each [] h i = lit< tt
 each (x ∷ l) h zero = h .0
 each (x ∷ l) h (suc i) = each l (h .1) i
 
-both : (p q : List ℕ) → Bytes p → Bytes q → Bytes (p ++ q)
+pub both : (p q : List ℕ) → Bytes p → Bytes q → Bytes (p ++ q)
 both [] q bp bq i = bq i
 both (x ∷ p) q bp bq zero = bp 0
 both (x ∷ p) q bp bq (suc i) = both p q (λ j. bp (suc j)) bq i
 
 bytes-drop : (n : ℕ) (l : List ℕ) → Bytes l → Bytes (drop n l)
 bytes-drop n l b i = subst⁻¹ (λ (x : ℕ). x < 256) (getD-drop n l i 0) (b (n + i))
+
+-- a number that fits two bytes, as these
+pub bytes-low-first : (n : ℕ) → n < 65536 → Bytes (lowFirst n)
+unfolding AllBytes
+bytes-low-first n h = each (lowFirst n) (omega arith, (omega arith, tt))
 
 -- a part of a list of bytes
 pub bytes-part : (k n : ℕ) (l : List ℕ) → Bytes l → Bytes (take n (drop k l))

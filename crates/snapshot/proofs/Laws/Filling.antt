@@ -13,7 +13,7 @@ use Rattle.snapshot.proofs.Laws.Parts.{regroup, before-trailer, before-
 use Rattle.snapshot.specs.Format.{lowFirst, pointers, checksum, summed, snapshotOf}
 
 -- Bytes that are put in right behind a front of the list make the front longer.
-put-front : (at : ℕ) (bytes l p : List ℕ) {n : ℕ} → take at l ≡ p → length p ≡ at → length bytes ≡ n → take (at + n) (putAt at bytes l) ≡ p ++ bytes
+pub put-front : (at : ℕ) (bytes l p : List ℕ) {n : ℕ} → take at l ≡ p → length p ≡ at → length bytes ≡ n → take (at + n) (putAt at bytes l) ≡ p ++ bytes
 put-front at bytes l p {n} front hp hb =
     ap (λ (q : List ℕ). take (at + n) (q ++ (bytes ++ drop (at + length bytes) l))) front
     ∙ ap (take (at + n)) (sym (append-assoc p bytes (drop (at + length bytes) l)))

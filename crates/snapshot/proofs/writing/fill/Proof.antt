@@ -52,11 +52,8 @@ slice-aggregate-checksum c = sym (length-take-le _ _ (omega arith))
 checksum-requires : tie.Need-checksum-requires
 checksum-requires c κs = search needs
 
-cast-t27 : tie.Need-cast-t27
-cast-t27 c = search needs
-
-cast-t29 : tie.Need-cast-t29
-cast-t29 c = search needs
+low-first-requires : tie.Need-low-first-requires
+low-first-requires c κs = search needs
 
 slice-aggregate-put-3 : tie.Need-slice-aggregate-put-3
 slice-aggregate-put-3 c = search needs
@@ -73,7 +70,8 @@ eight b = search needs
 returns : tie.Need-returns
 returns c =
     let p4 = c .before .before in
-    let s = p4 .before .before .before in
+    let w = p4 .before .before .before in
+    let s = w .before in
     let p3 = s .before .before .before .before in
     let q = p3 .before .before .before in
     let p2 = q .before .before .before in
@@ -87,7 +85,7 @@ returns c =
     (rw (e .encode .ensures) at (p2 .put2 .ensures .1))
     (rw (q .pointer-bytes .ensures) at (p3 .put3 .ensures .1))
     (s .checksum .ensures)
-    (p4 .put4 .ensures .1)
+    (rw (w .low-first .ensures) at (p4 .put4 .ensures .1))
     (omega (arith, p4 .put4 .kept .0, p3 .put3 .kept .0, p2 .put2 .kept .0, p1 .put .kept .0, b .pre .1))
 
 pub fill-spec : {M : Type 1} → statement M
@@ -108,8 +106,7 @@ fill-spec =
     slice-reshare-prefix-checksum
     slice-aggregate-checksum
     checksum-requires
-    cast-t27
-    cast-t29
+    low-first-requires
     slice-aggregate-put-3
     put-requires-4
     same-length

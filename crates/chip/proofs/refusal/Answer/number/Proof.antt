@@ -1,4 +1,4 @@
--- `Answer::number`: no refusal's number is above 7, so the sum fits.
+-- `Answer::number`: no refusal's number is above 9, so the sum fits.
 use native.Mathlib.Omega.{arith}
 use borrow.Author.Needs.{needs}
 use Rattle.chip.proofs.Laws.Refusals.{number-small}

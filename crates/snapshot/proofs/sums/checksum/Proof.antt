@@ -8,8 +8,8 @@ use lib.ListN.{length, take}
 use Rattle.snapshot.specs.Format.{checksum}
 use Rattle.snapshot.proofs.Laws.Sums.{sum-more}
 use borrow.Author.Needs.{needs}
-use Rattle.snapshot.proofs.checksum.checksum.Statement.{statement}
-use Rattle.snapshot.proofs.checksum.checksum.Tie as tie
+use Rattle.snapshot.proofs.sums.checksum.Statement.{statement}
+use Rattle.snapshot.proofs.sums.checksum.Tie as tie
 
 abbrev Inv-loop : tie.InvT-loop
 Inv-loop s total₀ i₀ total i = (i ≤ length s) × (total ≡ checksum (take i s))

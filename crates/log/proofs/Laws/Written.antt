@@ -1,0 +1,70 @@
+-- The log of record bytes: where its parts stand, and that it is a good log where the records are allowed.
+use Prim.Native.Nat.{ℕ, _+_, _*_}
+use native.Mathlib.Omega.{arith}
+use native.Mathlib.Nat.{mod-add-div}
+use mathlib.Core.Path.{_≡_, refl, ap, ap₂, _∙_}
+use mathlib.Core.Bool.{true}
+use mathlib.Core.List.{List}
+use lib.ListN.{length, getD, take, length-append}
+use lib.Seq.{take-at, getD-append-add}
+use borrow.Author.Tests.{eq-eqb}
+use Rattle.chip.specs.State.{Bytes}
+use Rattle.snapshot.specs.Format.{lowFirst, checksum}
+use Rattle.snapshot.specs.Tests.{pairAt}
+use Rattle.snapshot.proofs.Laws.Bytes.{both, bytes-low-first}
+use Rattle.log.specs.Format.{logTrailerOf, logOf, logTrailerAt, recordBytes}
+use Rattle.log.specs.Records.{recordsOf, allAllowed}
+use Rattle.log.specs.Tests.{distanceRight, logSumRight}
+use Rattle.log.proofs.Laws.Form.{Sized, size-right}
+use Rattle.log.proofs.Laws.Refusals.{Good, Writable}
+
+module _ (records : List ℕ) where
+  abbrev log : List ℕ
+  log = logOf records
+
+  abbrev n : ℕ
+  n = length records
+
+  pub length-log : length log ≡ n + 4
+  unfolding logOf
+  length-log = length-append records (logTrailerOf records)
+
+  trailer-at : logTrailerAt log ≡ n
+  trailer-at = omega (arith, length-log)
+
+  -- the trailer stands behind the records
+  tail : (k : ℕ) {m : ℕ} → m ≡ n + k → getD log m 0 ≡ getD (logTrailerOf records) k 0
+  unfolding logOf
+  tail k e = ap (λ (m : ℕ). getD (logOf records) m 0) e ∙ getD-append-add records (logTrailerOf records) k 0
+
+  pub records-back : recordBytes log ≡ records
+  unfolding recordBytes logOf
+  records-back = ap (λ (m : ℕ). take m (logOf records)) trailer-at ∙ take-at records (logTrailerOf records) n refl
+
+  distance-right : distanceRight log ≡ true
+  unfolding distanceRight
+  distance-right = rw trailer-at
+      (eq-eqb (pairAt log n) n
+      (ap₂ (λ (low high : ℕ). low + 256 * high) (tail 0 (omega arith)) (tail 1 (omega arith)) ∙ mod-add-div n 256))
+
+  sum-right : logSumRight log ≡ true
+  unfolding logSumRight
+  sum-right = rw (trailer-at, records-back)
+      (eq-eqb (pairAt log (n + 2)) (checksum records)
+      (ap₂ (λ (low high : ℕ). low + 256 * high) (tail 2 (omega arith)) (tail 3 (omega arith)) ∙ mod-add-div (checksum records) 256))
+
+  pub good : {out : List ℕ} → Writable records out → Good log
+  good w =
+      let s : Sized (length log) = record { least = omega (arith, length-log); most = omega (arith, length-log); even = omega (arith, length-log) } in
+      record {
+        size = size-right s;
+        distance = distance-right;
+        total = sum-right;
+        records = ap (λ (l : List ℕ). allAllowed (recordsOf l)) records-back ∙ w .allowed;
+      }
+
+  pub bytes-log : {out : List ℕ} → Writable records out → Bytes records → Bytes log
+  unfolding logOf
+  bytes-log w b =
+      both records (logTrailerOf records) b
+      (both (lowFirst n) (lowFirst (checksum records)) (bytes-low-first n (omega arith)) (bytes-low-first (checksum records) (omega arith)))

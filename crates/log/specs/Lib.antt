@@ -1,0 +1,7 @@
+-- The definitions that the contracts cite: the log's format, its records, the tests, reading and writing, and the run.
+pub mod Format
+pub mod Records
+pub mod Tests
+pub mod Calls
+pub mod Single
+pub mod Run

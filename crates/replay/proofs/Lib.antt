@@ -1,0 +1,3 @@
+pub mod Laws
+pub mod RefusedInput
+pub mod AfterTheRun

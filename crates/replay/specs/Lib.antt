@@ -1,0 +1,3 @@
+-- What `replay` writes: its line, and both streams for any input.
+pub mod Report
+pub mod Streams
