@@ -1,7 +1,11 @@
 #!/usr/bin/env python3
-"""Makes the sample snapshots: one picture in each mode of the chip."""
+"""Makes the sample snapshots, one picture in each mode of the chip, and the sample logs."""
 import math
 import os
+import sys
+
+sys.dont_write_bytecode = True
+import chip
 
 HERE = os.path.dirname(os.path.abspath(__file__))
 
@@ -24,6 +28,11 @@ FACE = {
     "*": "00 15 0E 1F 0E 15 00", "=": "00 00 1F 00 1F 00 00", "/": "01 01 02 04 08 10 10",
     " ": "00 00 00 00 00 00 00", "+": "00 04 04 1F 04 04 00", "?": "0E 11 01 02 04 00 04",
 }
+
+
+def store(name, data):
+    with open(os.path.join(HERE, name), "wb") as file:
+        file.write(data)
 
 
 def rows(text):
@@ -61,11 +70,7 @@ class Machine:
     def save(self, name):
         if self.sprites < 32:
             self.put(self.registers[5] * 128 + 4 * self.sprites, [208])
-        state = bytes(self.registers) + bytes([0, 0, 0, 0, 0, self.status])
-        body = bytes(self.vram) + state + bytes([0x56, 0x31, 14, 0, 16398 & 255, 16398 >> 8])
-        total = sum(body) % 65536
-        with open(os.path.join(HERE, name + ".snap"), "wb") as file:
-            file.write(body + bytes([total & 255, total >> 8]))
+        store(name + ".snap", chip.snapshot(self.vram, self.registers + [0, 0, 0, 0, 0, self.status]))
 
 
 def face(machine, base):
@@ -396,8 +401,41 @@ def blocks():
     machine.save("multicolor")
 
 
+def driver(name, interrupted):
+    """A driver that prints two lines on the text screen and reads both back, while two frames are drawn.
+
+    The first frame ends between the two control bytes that set the second line's address. A driver that holds interrupts off
+    until the pair is complete prints what it should. Where the interrupt routine reads status at once, the first control
+    byte is dropped, and the second one waits until the first data write drops it too. So the address stays behind the first
+    line, the second line goes there, and reading back finds the space that is still in its place.
+    """
+    def pair(first, second):
+        return [(chip.CONTROL_WRITE, first), (chip.CONTROL_WRITE, second)]
+
+    def lines(first, last):
+        return [(chip.DRAW_LINE, line) for line in range(first, last + 1)]
+
+    def written(text):
+        return [(chip.DATA_WRITE, ord(letter)) for letter in text]
+
+    def read_back(place, text):
+        return pair(place & 255, place >> 8) + [(chip.DATA_READ, ord(letter)) for letter in text]
+
+    one, two = 40 * 21 + 5, 40 * 22 + 5
+    low, high = pair(two & 255, 0x40 | two >> 8)
+    status = (chip.STATUS_READ, 0x80)
+    calls = [(chip.RESET, 0), (chip.STATUS_READ, 0x00)] + pair(0x00, 0x80) + pair(0x70, 0x81)
+    calls += lines(0, 99) + pair(one & 255, 0x40 | one >> 8) + written("10 READ STATUS") + read_back(one, "10 READ STATUS")
+    calls += lines(100, 191) + [low, (chip.END_OF_DISPLAY, 0)] + ([status, high] if interrupted else [high, status])
+    calls += written("20 GOTO 10") + read_back(two, "20 GOTO 10")
+    calls += lines(0, 191) + [(chip.END_OF_DISPLAY, 0), status]
+    store(name + ".log", chip.log(calls))
+
+
 if __name__ == "__main__":
     text_screen()
     night()
     bitmap()
     blocks()
+    driver("driver", False)
+    driver("interrupted", True)

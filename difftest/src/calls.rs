@@ -1,9 +1,10 @@
 //! Cases: a start and a list of calls, run on both sides and compared after every call.
 
 use crate::library::{Calls, LIBRARY, REFERENCE};
-use crate::show;
+use crate::logs::{Host, Log};
+use crate::{replay, show};
 
-/// What can be lent.
+/// What can be lent. Logs and record bytes are each call's own and have no length of their own.
 #[derive(Clone, Copy, Debug, PartialEq, Eq)]
 pub enum Slice {
     Block,
@@ -13,9 +14,10 @@ pub enum Slice {
     Notes,
     Line,
     Snapshot,
+    Outcome,
 }
 
-pub const SLICES: [(Slice, &str, usize); 7] = [
+pub const SLICES: [(Slice, &str, usize); 8] = [
     (Slice::Block, "block", 15),
     (Slice::Vram, "VRAM", 16384),
     (Slice::Map, "map", 2048),
@@ -23,6 +25,7 @@ pub const SLICES: [(Slice, &str, usize); 7] = [
     (Slice::Notes, "notes", 192),
     (Slice::Line, "line", 256),
     (Slice::Snapshot, "snapshot", 16406),
+    (Slice::Outcome, "outcome", 4),
 ];
 
 /// Bytes before and after each slice that no call may touch.
@@ -44,6 +47,12 @@ pub enum Call {
     WriteSnapshot,
     FullDraw,
     Refresh,
+    /// The calls of a log, by its place among the case's logs.
+    RunLog(usize),
+    ReadLog(usize),
+    WriteLog(usize),
+    /// The replay program over the snapshot and a log.
+    Replay(usize),
     /// The show program over the snapshot.
     Show,
     /// The host sets the block's status.
@@ -53,7 +62,7 @@ pub enum Call {
 }
 
 /// The calls by name, for counting.
-pub const NAMES: [&str; 13] = [
+pub const NAMES: [&str; 16] = [
     "power_up",
     "control_write",
     "data_write",
@@ -67,10 +76,13 @@ pub const NAMES: [&str; 13] = [
     "write_snapshot",
     "full_draw",
     "refresh",
+    "run_log",
+    "read_log",
+    "write_log",
 ];
 
 impl Call {
-    /// Its place in NAMES; the show program and the host's own doing have none.
+    /// Its place in NAMES; the programs and the host's own doing have none.
     pub fn place(self) -> Option<usize> {
         match self {
             Call::PowerUp => Some(0),
@@ -86,7 +98,10 @@ impl Call {
             Call::WriteSnapshot => Some(10),
             Call::FullDraw => Some(11),
             Call::Refresh => Some(12),
-            Call::Show | Call::PutStatus(_) | Call::PutSnapshot(..) => None,
+            Call::RunLog(_) => Some(13),
+            Call::ReadLog(_) => Some(14),
+            Call::WriteLog(_) => Some(15),
+            Call::Replay(_) | Call::Show | Call::PutStatus(_) | Call::PutSnapshot(..) => None,
         }
     }
 
@@ -99,8 +114,17 @@ impl Call {
             Call::DrawLine(_) => &[Slice::Block, Slice::Vram, Slice::Line],
             Call::ReadSnapshot | Call::WriteSnapshot => &[Slice::Block, Slice::Vram, Slice::Snapshot],
             Call::FullDraw | Call::Refresh => &[Slice::Block, Slice::Vram, Slice::Map, Slice::Frame, Slice::Notes],
-            Call::Show => &[Slice::Snapshot],
-            Call::PutStatus(_) | Call::PutSnapshot(..) => &[],
+            Call::RunLog(_) => &[Slice::Block, Slice::Vram, Slice::Map, Slice::Line, Slice::Outcome],
+            Call::Replay(_) | Call::Show => &[Slice::Snapshot],
+            Call::ReadLog(_) | Call::WriteLog(_) | Call::PutStatus(_) | Call::PutSnapshot(..) => &[],
+        }
+    }
+
+    /// The place of its log.
+    pub fn log(self) -> Option<usize> {
+        match self {
+            Call::RunLog(log) | Call::ReadLog(log) | Call::WriteLog(log) | Call::Replay(log) => Some(log),
+            _ => None,
         }
     }
 }
@@ -142,10 +166,12 @@ impl std::fmt::Display for Step {
                 write!(f, "(host) snapshot[{at}] = {byte:02X}{sum}")?
             }
             Call::Show => write!(f, "show")?,
+            Call::Replay(log) => write!(f, "replay (log {log})")?,
             call => {
                 let argument = match call {
                     Call::ControlWrite(byte) | Call::DataWrite(byte) => format!("{byte:02X}"),
                     Call::DrawLine(number) => number.to_string(),
+                    Call::RunLog(log) | Call::ReadLog(log) | Call::WriteLog(log) => format!("log {log}"),
                     _ => String::new(),
                 };
                 write!(f, "vdp_{}({argument})", call.place().map_or("", |place| NAMES[place]))?
@@ -161,23 +187,41 @@ impl std::fmt::Display for Step {
     }
 }
 
-/// A start and a list of calls. Frame and line start with foreign bytes.
+/// A start and a list of calls with their logs. Frame, line and outcome start with foreign bytes.
 #[derive(Clone, Debug)]
 pub struct Case {
     pub block: Vec<u8>,
     pub vram: Vec<u8>,
     pub map: Vec<u8>,
     pub notes: Vec<u8>,
+    pub logs: Vec<Log>,
     pub steps: Vec<Step>,
 }
 
 /// One side's bytes, each slice between its guards.
 struct Side {
     bytes: Vec<Vec<u8>>,
+    /// Of the call that is made; empty for one without a log.
+    log: Vec<u8>,
+    records: Vec<u8>,
 }
 
 const FOREIGN: u8 = 0xEE;
 const GUARD_BYTE: u8 = 0xA5;
+
+fn guarded(inner: &[u8]) -> Vec<u8> {
+    let guard = [GUARD_BYTE; GUARD];
+    [&guard[..], inner, &guard].concat()
+}
+
+fn within(guarded: &[u8]) -> &[u8] {
+    &guarded[GUARD..guarded.len() - GUARD]
+}
+
+fn within_mut(guarded: &mut [u8]) -> &mut [u8] {
+    let end = guarded.len() - GUARD;
+    &mut guarded[GUARD..end]
+}
 
 impl Side {
     fn new(case: &Case) -> Side {
@@ -189,7 +233,7 @@ impl Side {
                 Slice::Vram => inner.copy_from_slice(&case.vram),
                 Slice::Map => inner.copy_from_slice(&case.map),
                 Slice::Notes => inner.copy_from_slice(&case.notes),
-                Slice::Frame | Slice::Line => inner.fill(FOREIGN),
+                Slice::Frame | Slice::Line | Slice::Outcome => inner.fill(FOREIGN),
                 // A right one of the start.
                 Slice::Snapshot => {
                     (REFERENCE.write_snapshot)(&case.block, &case.vram, inner);
@@ -197,12 +241,38 @@ impl Side {
             }
             bytes
         });
-        Side { bytes: bytes.collect() }
+        Side {
+            bytes: bytes.collect(),
+            log: guarded(&[]),
+            records: guarded(&[]),
+        }
+    }
+
+    /// The log and record bytes that the next call is lent.
+    fn put_log(&mut self, log: &[u8], records: &[u8]) {
+        if !log.is_empty() || !records.is_empty() || self.log.len() + self.records.len() > 4 * GUARD {
+            (self.log, self.records) = (guarded(log), guarded(records));
+        }
     }
 
     fn slice(&mut self, slice: Slice) -> &mut [u8] {
         let place = slice as usize;
         &mut self.bytes[place][GUARD..GUARD + SLICES[place].2]
+    }
+
+    /// The snapshot as the programs are lent it.
+    fn lent_snapshot(&self, step: &Step) -> &[u8] {
+        &self.bytes[Slice::Snapshot as usize][GUARD..GUARD + step.length(Slice::Snapshot)]
+    }
+
+    /// What single calls are lent in place of a run.
+    fn host(&mut self, step: &Step) -> Host {
+        Host {
+            block: self.lent_block(step),
+            vram: self.slice(Slice::Vram).to_vec(),
+            map: self.slice(Slice::Map).to_vec(),
+            line: self.slice(Slice::Line).to_vec(),
+        }
     }
 
     /// The block as the call is lent it.
@@ -228,13 +298,15 @@ impl Side {
     }
 
     fn lend(&mut self, calls: &Calls, step: &Step) -> u32 {
+        let (log, records) = (within_mut(&mut self.log), within_mut(&mut self.records));
         let mut lent = self
             .bytes
             .iter_mut()
             .zip(SLICES)
             .map(|(bytes, (slice, _, _))| &mut bytes[GUARD..GUARD + step.length(slice)]);
         let mut next = || lent.next().unwrap_or_default();
-        let (block, vram, map, frame, notes, line, snapshot) = (next(), next(), next(), next(), next(), next(), next());
+        let (block, vram, map, frame) = (next(), next(), next(), next());
+        let (notes, line, snapshot, outcome) = (next(), next(), next(), next());
         match step.call {
             Call::PowerUp => (calls.power_up)(block, vram),
             Call::ControlWrite(byte) => (calls.control_write)(block, vram, byte),
@@ -249,7 +321,10 @@ impl Side {
             Call::WriteSnapshot => (calls.write_snapshot)(block, vram, snapshot),
             Call::FullDraw => (calls.full_draw)(block, vram, map, frame, notes),
             Call::Refresh => (calls.refresh)(block, vram, map, frame, notes),
-            Call::Show => 0,
+            Call::RunLog(_) => (calls.run_log)(block, vram, map, line, log, outcome),
+            Call::ReadLog(_) => (calls.read_log)(log, records),
+            Call::WriteLog(_) => (calls.write_log)(records, log),
+            Call::Replay(_) | Call::Show => 0,
             Call::PutStatus(byte) => {
                 block[13] = byte;
                 0
@@ -272,7 +347,7 @@ impl Side {
 #[derive(Default)]
 pub struct Reached {
     /// Answers of each call by refusal number.
-    pub answers: [[u64; 8]; NAMES.len()],
+    pub answers: [[u64; 10]; NAMES.len()],
     /// Draws that turned 5S or C on.
     pub fifth: u64,
     pub coincidence: u64,
@@ -280,8 +355,21 @@ pub struct Reached {
     pub refreshes: [u64; 3],
     /// Refreshes held against a full draw.
     pub full_draws: u64,
+    /// Runs by their number of records, as in LENGTHS; accepted, but for the last.
+    pub lengths: [u64; LENGTHS.len()],
+    /// Runs that ended at a differing read.
+    pub differing: u64,
+    /// Records done by runs that were held against single calls, by operation.
+    pub operations: [u64; 7],
+    /// Logs read and written back, and record bytes written and read back.
+    pub round_trips: [u64; 2],
+    /// Replays that were accepted and refused.
+    pub replayed: [u64; 2],
     pub shown: u64,
 }
+
+/// The numbers of records at the ends, and one too many.
+pub const LENGTHS: [usize; 5] = [0, 1, 19_999, 20_000, 20_001];
 
 /// Where the sides part: after which step, and how.
 pub struct Difference {
@@ -297,6 +385,11 @@ pub fn run(case: &Case, reached: &mut Reached) -> Result<(), Difference> {
     let mut follows = false;
     for (at, step) in case.steps.iter().enumerate() {
         let before = library.lent_block(step);
+        let (log, records) = lent_logs(case, step, &mut second);
+        library.put_log(&log, &records);
+        second.put_log(&log, &records);
+        // What the same calls made singly start from.
+        let host = matches!(step.call, Call::RunLog(_)).then(|| library.host(step));
         let (answer, expected) = (library.make(&LIBRARY, step), second.make(&REFERENCE, step));
         let mut found = compare(answer, expected, &library, &second);
         let refreshed = step.call == Call::Refresh && answer < 256;
@@ -304,9 +397,17 @@ pub fn run(case: &Case, reached: &mut Reached) -> Result<(), Difference> {
         if found.is_none() && follows && refreshed {
             found = full_draw_differs(before.clone(), &mut library, reached);
         }
-        if found.is_none() && step.call == Call::Show {
-            let input = &library.bytes[Slice::Snapshot as usize][GUARD..GUARD + step.length(Slice::Snapshot)];
-            found = show::differs(input, &mut reached.shown);
+        if found.is_none() {
+            found = match step.call {
+                Call::RunLog(_) => host.and_then(|host| singles_differ(host, answer, &mut library, reached)),
+                Call::ReadLog(_) | Call::WriteLog(_) if answer == 0 => round_trip_differs(step.call, &library, reached),
+                Call::Show => show::differs(library.lent_snapshot(step), &mut reached.shown),
+                Call::Replay(_) => {
+                    let input = [library.lent_snapshot(step), &log].concat();
+                    replay::differs(&input, &mut reached.replayed)
+                }
+                _ => None,
+            };
         }
         if let Some(what) = found {
             return Err(Difference { step: at, what });
@@ -316,27 +417,141 @@ pub fn run(case: &Case, reached: &mut Reached) -> Result<(), Difference> {
     Ok(())
 }
 
+/// The log and record bytes that a step lends; none where it has no log. What is to be written over is
+/// foreign.
+fn lent_logs(case: &Case, step: &Step, second: &mut Side) -> (Vec<u8>, Vec<u8>) {
+    let Some(plan) = step.call.log().map(|at| &case.logs[at]) else {
+        return (Vec::new(), Vec::new());
+    };
+    match step.call {
+        Call::RunLog(_) => {
+            let block = second.lent_block(step);
+            let log = plan.log_bytes(&plan.run_bytes(&block, second.slice(Slice::Vram)));
+            (log, Vec::new())
+        }
+        Call::Replay(_) => {
+            let snapshot = second.slice(Slice::Snapshot);
+            let block = [&snapshot[16384..16398], &[1]].concat();
+            let log = plan.log_bytes(&plan.run_bytes(&block, &snapshot[..16384]));
+            (log, Vec::new())
+        }
+        Call::ReadLog(_) => {
+            let log = plan.log_bytes(&plan.plain_bytes());
+            let mut records = vec![FOREIGN; log.len().saturating_sub(4)];
+            plan.cut_records(&mut records);
+            (log, records)
+        }
+        _ => {
+            let mut records = plan.plain_bytes();
+            let mut log = vec![FOREIGN; records.len() + 4];
+            plan.cut(&mut log);
+            records.resize(log.len().saturating_sub(4), 0);
+            plan.cut_records(&mut records);
+            (log, records)
+        }
+    }
+}
+
 fn compare(answer: u32, expected: u32, library: &Side, second: &Side) -> Option<String> {
     if answer != expected {
         return Some(format!("the library answers {answer}, the reference {expected}"));
     }
     for (place, (_, name, length)) in SLICES.into_iter().enumerate() {
-        let (ours, theirs) = (&library.bytes[place], &second.bytes[place]);
-        if ours != theirs {
-            let at = ours
-                .iter()
-                .zip(theirs)
-                .position(|(ours, theirs)| ours != theirs)
-                .unwrap_or(0);
-            let (left, right) = (ours[at], theirs[at]);
-            return Some(if at < GUARD || at >= GUARD + length {
-                format!("the library wrote beside the {name}")
-            } else {
-                format!("{name}[{}] is {left:02X} in the library, {right:02X} in the reference", at - GUARD)
-            });
+        let differing = differing(name, length, &library.bytes[place], &second.bytes[place]);
+        if differing.is_some() {
+            return differing;
+        }
+    }
+    for (name, ours, theirs) in [
+        ("log", &library.log, &second.log),
+        ("record bytes", &library.records, &second.records),
+    ] {
+        let differing = differing(name, within(ours).len(), ours, theirs);
+        if differing.is_some() {
+            return differing;
         }
     }
     None
+}
+
+/// Where both sides' bytes of a slice and its guards differ.
+fn differing(name: &str, length: usize, ours: &[u8], theirs: &[u8]) -> Option<String> {
+    if ours == theirs {
+        return None;
+    }
+    let at = ours
+        .iter()
+        .zip(theirs)
+        .position(|(ours, theirs)| ours != theirs)
+        .unwrap_or(0);
+    let (left, right) = (ours[at], theirs[at]);
+    Some(if at < GUARD || at >= GUARD + length {
+        format!("the library wrote beside the {name}")
+    } else {
+        format!("{name}[{}] is {left:02X} in the library, {right:02X} in the reference", at - GUARD)
+    })
+}
+
+/// The calls of a run made singly by the library, as far as the run reports them done.
+fn singles_differ(mut host: Host, answer: u32, after: &mut Side, reached: &mut Reached) -> Option<String> {
+    let log = within(&after.log);
+    let records = log[..log.len().saturating_sub(4)].to_vec();
+    let length = LENGTHS
+        .iter()
+        .position(|&length| 2 * length == records.len() && log.len() >= 4);
+    if answer >= 256 {
+        if length == Some(4) {
+            reached.lengths[4] += 1;
+        }
+        return None;
+    }
+    let outcome = after.slice(Slice::Outcome).to_vec();
+    if let Some(what) = host.differs(&LIBRARY, &records, answer, &outcome) {
+        return Some(what);
+    }
+    for (slice, single) in [
+        (Slice::Block, &host.block),
+        (Slice::Vram, &host.vram),
+        (Slice::Map, &host.map),
+        (Slice::Line, &host.line),
+    ] {
+        let run = after.slice(slice);
+        if let Some(at) = (0..run.len()).find(|&at| run[at] != single[at]) {
+            let name = SLICES[slice as usize].1;
+            return Some(format!(
+                "{name}[{at}] is {:02X} after the run, {:02X} after the same calls made singly",
+                run[at], single[at]
+            ));
+        }
+    }
+    if let Some(place) = length.filter(|&place| place < 4) {
+        reached.lengths[place] += 1;
+    }
+    let done = usize::from(outcome[0]) + 256 * usize::from(outcome[1]);
+    reached.differing += u64::from(outcome[..2] != outcome[2..]);
+    for record in records.chunks(2).take(done) {
+        reached.operations[usize::from(record[0])] += 1;
+    }
+    None
+}
+
+/// What the library has read, written back; what it has written, read back.
+fn round_trip_differs(call: Call, after: &Side, reached: &mut Reached) -> Option<String> {
+    let (log, records) = (within(&after.log), within(&after.records));
+    let (back, there) = if let Call::ReadLog(_) = call {
+        reached.round_trips[0] += 1;
+        let mut back = vec![FOREIGN; log.len()];
+        ((LIBRARY.write_log)(records, &mut back), back == log)
+    } else {
+        reached.round_trips[1] += 1;
+        let mut back = vec![FOREIGN; records.len()];
+        ((LIBRARY.read_log)(log, &mut back), back == records)
+    };
+    match (back, there) {
+        (0, true) => None,
+        (0, false) => Some("the way back ends at other bytes".to_string()),
+        (answer, _) => Some(format!("the way back answers {answer}")),
+    }
 }
 
 /// A full draw into other buffers, from the block before the refresh.
@@ -367,7 +582,7 @@ fn full_draw_differs(mut block: Vec<u8>, after: &mut Side, reached: &mut Reached
 
 fn count(step: &Step, answer: u32, before: u8, after: u8, reached: &mut Reached) {
     if let Some(place) = step.call.place() {
-        reached.answers[place][(answer / 256).min(7) as usize] += 1;
+        reached.answers[place][(answer / 256).min(9) as usize] += 1;
     }
     if let Call::DrawLine(_) | Call::FullDraw | Call::Refresh = step.call {
         let turned_on = after & !before;

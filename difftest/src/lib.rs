@@ -3,7 +3,9 @@
 pub mod calls;
 pub mod library;
 pub mod lists;
+pub mod logs;
 pub mod random;
+pub mod replay;
 pub mod scenes;
 pub mod show;
 pub mod shrink;

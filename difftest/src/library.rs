@@ -70,11 +70,30 @@ mod c {
             snapshot: *mut u8,
             snapshot_len: usize,
         ) -> u32;
+        pub fn vdp_run_log(
+            block: *mut u8,
+            block_len: usize,
+            vram: *mut u8,
+            vram_len: usize,
+            map: *mut u8,
+            map_len: usize,
+            line: *mut u8,
+            line_len: usize,
+            log: *const u8,
+            log_len: usize,
+            outcome: *mut u8,
+            outcome_len: usize,
+        ) -> u32;
+        pub fn vdp_read_log(log: *const u8, log_len: usize, records: *mut u8, records_len: usize) -> u32;
+        pub fn vdp_write_log(records: *const u8, records_len: usize, log: *mut u8, log_len: usize) -> u32;
     }
 }
 
 /// A draw of a whole picture: block, VRAM, map, frame and notes.
 pub type Draw = fn(&mut [u8], &[u8], &mut [u8], &mut [u8], &mut [u8]) -> u32;
+
+/// A run of a log: block, VRAM, map, line, log and outcome.
+pub type RunLog = fn(&mut [u8], &mut [u8], &mut [u8], &mut [u8], &[u8], &mut [u8]) -> u32;
 
 /// One side's calls.
 pub struct Calls {
@@ -91,6 +110,9 @@ pub struct Calls {
     pub reset: fn(&mut [u8]) -> u32,
     pub read_snapshot: fn(&mut [u8], &mut [u8], &[u8]) -> u32,
     pub write_snapshot: fn(&[u8], &[u8], &mut [u8]) -> u32,
+    pub run_log: RunLog,
+    pub read_log: fn(&[u8], &mut [u8]) -> u32,
+    pub write_log: fn(&[u8], &mut [u8]) -> u32,
 }
 
 pub const REFERENCE: Calls = Calls {
@@ -107,6 +129,9 @@ pub const REFERENCE: Calls = Calls {
     reset: second::vdp_reset,
     read_snapshot: second::vdp_read_snapshot,
     write_snapshot: second::vdp_write_snapshot,
+    run_log: second::vdp_run_log,
+    read_log: second::vdp_read_log,
+    write_log: second::vdp_write_log,
 };
 
 pub const LIBRARY: Calls = Calls {
@@ -123,6 +148,9 @@ pub const LIBRARY: Calls = Calls {
     reset,
     read_snapshot,
     write_snapshot,
+    run_log,
+    read_log,
+    write_log,
 };
 
 // Safety, for every call below: each pointer comes with its slice's length, and borrowing keeps
@@ -242,4 +270,31 @@ fn write_snapshot(block: &[u8], vram: &[u8], snapshot: &mut [u8]) -> u32 {
             snapshot.len(),
         )
     }
+}
+
+fn run_log(block: &mut [u8], vram: &mut [u8], map: &mut [u8], line: &mut [u8], log: &[u8], outcome: &mut [u8]) -> u32 {
+    unsafe {
+        c::vdp_run_log(
+            block.as_mut_ptr(),
+            block.len(),
+            vram.as_mut_ptr(),
+            vram.len(),
+            map.as_mut_ptr(),
+            map.len(),
+            line.as_mut_ptr(),
+            line.len(),
+            log.as_ptr(),
+            log.len(),
+            outcome.as_mut_ptr(),
+            outcome.len(),
+        )
+    }
+}
+
+fn read_log(log: &[u8], records: &mut [u8]) -> u32 {
+    unsafe { c::vdp_read_log(log.as_ptr(), log.len(), records.as_mut_ptr(), records.len()) }
+}
+
+fn write_log(records: &[u8], log: &mut [u8]) -> u32 {
+    unsafe { c::vdp_write_log(records.as_ptr(), records.len(), log.as_mut_ptr(), log.len()) }
 }

@@ -1,6 +1,7 @@
-//! Random cases: states drawn line by line, and long lists of calls.
+//! Random cases: states drawn line by line, calls of logs, and long lists of calls.
 
 use crate::calls::{Call, Case, Slice, Step, GUARD, SLICES};
+use crate::logs::Log;
 use crate::random::Random;
 use crate::scenes::{scene, status, KINDS, MASKS, MODES};
 
@@ -39,6 +40,7 @@ pub fn state_case(seed: u64, number: u64) -> Case {
         vram,
         map,
         notes,
+        logs: Vec::new(),
         steps,
     }
 }
@@ -75,7 +77,50 @@ pub fn place(number: u64) -> (usize, usize) {
 
 /// A list of hundreds of calls.
 pub fn list_case(seed: u64, number: u64) -> Case {
-    let mut random = Random::new(seed, 2 * number + 1);
+    made(Random::new(seed, 2 * number + 1), |maker| {
+        let length = 200 + maker.random.below(200);
+        while maker.steps.len() < length {
+            maker.some();
+        }
+    })
+}
+
+/// Calls of logs. Each of these numbers of records comes round: 0, 1, 19,999, 20,000, and 20,001, which
+/// is refused, as are so many that two bytes do not hold the distance; most logs are far shorter.
+pub fn log_case(seed: u64, number: u64) -> Case {
+    // The numbers of no state and no list.
+    made(Random::new(seed, !number), |maker| {
+        match number % 64 {
+            58 => {
+                let count = 32_768 + maker.random.below(2);
+                maker.logs_of(count);
+            }
+            59 => {
+                let count = maker.random.below(20_001);
+                maker.logs_of(count);
+            }
+            60 => {
+                maker.logs_of(0);
+                maker.logs_of(1);
+            }
+            61 => maker.logs_of(19_999),
+            62 => maker.logs_of(20_000),
+            63 => maker.logs_of(20_001),
+            turn => {
+                for _ in 0..8 {
+                    maker.any_log(11);
+                }
+                if turn % 8 == 0 {
+                    maker.any_replay();
+                }
+            }
+        }
+        maker.clear_marks();
+    })
+}
+
+/// A case whose calls the maker makes, from some scene on.
+fn made(mut random: Random, calls: impl FnOnce(&mut Maker)) -> Case {
     // Mostly modes with sprites, and sprite pictures.
     let mode = random.pick(&[0, 0, 0, 1, 1, 1, 2, 2, 3, 4, 5]);
     let kind = random.below(KINDS.len());
@@ -86,32 +131,32 @@ pub fn list_case(seed: u64, number: u64) -> Case {
     let mut maker = Maker {
         registers: block[..8].to_vec(),
         random,
+        logs: Vec::new(),
         steps: Vec::new(),
     };
-    let length = 200 + maker.random.below(200);
-    while maker.steps.len() < length {
-        maker.some();
-    }
+    calls(&mut maker);
     Case {
         block,
         vram,
         map,
         notes,
+        logs: maker.logs,
         steps: maker.steps,
     }
 }
 
 /// Makes a list; knows about the registers, so as to write where it matters.
-struct Maker {
-    random: Random,
-    registers: Vec<u8>,
-    steps: Vec<Step>,
+pub struct Maker {
+    pub(crate) random: Random,
+    pub(crate) registers: Vec<u8>,
+    pub(crate) logs: Vec<Log>,
+    pub(crate) steps: Vec<Step>,
 }
 
 impl Maker {
     /// A few calls that belong together.
     fn some(&mut self) {
-        match self.random.below(200) {
+        match self.random.below(205) {
             0..=79 => self.write(),
             80..=95 => self.read(),
             96..=99 => self.register(),
@@ -131,12 +176,13 @@ impl Maker {
             136..=147 => self.line(),
             148..=157 => self.snapshot(),
             158..=159 => self.push(Call::FullDraw),
-            _ => self.push(Call::Refresh),
+            160..=199 => self.push(Call::Refresh),
+            _ => self.any_log(6),
         }
     }
 
     /// Adds a call, now and then one with something wrong.
-    fn push(&mut self, call: Call) {
+    pub(crate) fn push(&mut self, call: Call) {
         let mut step = Step::from(call);
         if !call.lent().is_empty() && self.random.one_in(10) {
             for _ in 0..1 + self.random.below(3) {
@@ -146,7 +192,7 @@ impl Maker {
                 step.lengths.push((slice, length));
             }
         }
-        if call.place().is_some() && self.random.one_in(16) {
+        if call.lent().contains(&Slice::Block) && self.random.one_in(16) {
             step.spoil = self.wrong_block();
         }
         self.steps.push(step);
@@ -186,7 +232,7 @@ impl Maker {
     }
 
     /// An address in one of the tables, or anywhere.
-    fn address(&mut self) -> usize {
+    pub(crate) fn address(&mut self) -> usize {
         let of = |register: usize| usize::from(self.registers[register]);
         let (names, attributes, sprites) = (of(2) * 1024, of(5) * 128, of(6) * 2048);
         let (colours, patterns) = if of(0) & 2 == 0 {
@@ -283,14 +329,7 @@ impl Maker {
             self.push(Call::PutSnapshot(16392, 0, true));
             self.push(Call::PutSnapshot(16393, 0x40, true));
         } else if self.random.one_in(3) {
-            let (byte, any) = (self.random.byte(), self.random.below(16406));
-            let at = self
-                .random
-                .pick(&[16384, 16385, 16386, 16388, 16389, 16390, 16393, 16395, 16396, any, any]);
-            let trailer = 16398 + self.random.below(8);
-            let at = if self.random.one_in(4) { trailer } else { at };
-            let sum = !self.random.one_in(3);
-            self.push(Call::PutSnapshot(at, byte, sum));
+            self.harm_snapshot();
         }
         self.push(Call::ReadSnapshot);
         if self.random.one_in(8) {
@@ -300,5 +339,17 @@ impl Maker {
         if self.random.one_in(2) {
             self.steps.push(Call::WriteSnapshot.into());
         }
+    }
+
+    /// Changes a byte of the snapshot, mostly one that is tested.
+    pub(crate) fn harm_snapshot(&mut self) {
+        let (byte, any) = (self.random.byte(), self.random.below(16406));
+        let at = self
+            .random
+            .pick(&[16384, 16385, 16386, 16388, 16389, 16390, 16393, 16395, 16396, any, any]);
+        let trailer = 16398 + self.random.below(8);
+        let at = if self.random.one_in(4) { trailer } else { at };
+        let sum = !self.random.one_in(3);
+        self.push(Call::PutSnapshot(at, byte, sum));
     }
 }

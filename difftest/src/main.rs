@@ -1,11 +1,11 @@
 //! difftest [--seed N] [--first N] [--cases N] [--faults | --gate]
 //!
-//! Compares N states, from the first on, and a tenth as many lists of calls; without --cases a fixed
-//! number, and no more than two minutes. --faults plants each of the reference's faults in turn and
-//! wants it found; --gate does both.
+//! Compares N states, from the first on, and a tenth as many lists of calls and as many cases of logs;
+//! without --cases a fixed number, and no more than two minutes. --faults plants each of the
+//! reference's faults in turn and wants it found; --gate does both.
 
-use difftest::calls::{run, Case, Reached, NAMES};
-use difftest::lists::{list_case, place, state_case};
+use difftest::calls::{run, Case, Reached, LENGTHS, NAMES};
+use difftest::lists::{list_case, log_case, place, state_case};
 use difftest::scenes::{KINDS, MODES};
 use difftest::shrink;
 use reference::faults;
@@ -73,10 +73,11 @@ fn options() -> Result<Options, String> {
     Ok(options)
 }
 
-/// A state or a list by its number.
+/// A state, a list or a case of logs by its number.
 #[derive(Clone, Copy)]
 enum Numbered {
     State(u64),
+    Logs(u64),
     List(u64),
 }
 
@@ -84,15 +85,16 @@ impl Numbered {
     fn case(self, seed: u64) -> Case {
         match self {
             Numbered::State(number) => state_case(seed, number),
+            Numbered::Logs(number) => log_case(seed, number),
             Numbered::List(number) => list_case(seed, number),
         }
     }
 
-    /// The words that run it again; a list comes after its ten states.
+    /// The words that run it again; logs and a list come after their ten states.
     fn alone(self, seed: u64) -> String {
         let first = match self {
             Numbered::State(number) => number,
-            Numbered::List(number) => 10 * number + 9,
+            Numbered::Logs(number) | Numbered::List(number) => 10 * number + 9,
         };
         format!("--seed {seed} --first {first} --cases 1")
     }
@@ -105,16 +107,18 @@ impl std::fmt::Display for Numbered {
                 let (mode, kind) = place(number);
                 write!(f, "state {number} ({}, {})", MODES[mode], KINDS[kind])
             }
+            Numbered::Logs(number) => write!(f, "logs {number}"),
             Numbered::List(number) => write!(f, "list {number}"),
         }
     }
 }
 
-/// What is to be compared, in order: a list after every ten states.
+/// What is to be compared, in order: logs and a list after every ten states.
 fn in_order(options: &Options) -> impl Iterator<Item = Numbered> {
     (options.first..options.first + options.cases).flat_map(|number| {
-        let list = (number % 10 == 9).then_some(Numbered::List(number / 10));
-        std::iter::once(Numbered::State(number)).chain(list)
+        let after_ten = [Numbered::Logs(number / 10), Numbered::List(number / 10)];
+        let after = after_ten.into_iter().filter(move |_| number % 10 == 9);
+        std::iter::once(Numbered::State(number)).chain(after)
     })
 }
 
@@ -122,6 +126,7 @@ fn in_order(options: &Options) -> impl Iterator<Item = Numbered> {
 #[derive(Default)]
 struct Compared {
     states: [u64; MODES.len()],
+    logs: u64,
     lists: u64,
 }
 
@@ -129,6 +134,7 @@ impl Compared {
     fn count(&mut self, numbered: Numbered) {
         match numbered {
             Numbered::State(number) => self.states[place(number).0] += 1,
+            Numbered::Logs(_) => self.logs += 1,
             Numbered::List(_) => self.lists += 1,
         }
     }
@@ -186,6 +192,9 @@ fn print(case: &Case) {
             _ => println!("  {name} zero but {}", some.join(" ")),
         }
     }
+    for log in case.steps.iter().filter_map(|step| step.call.log()) {
+        println!("  log {log}: {}", case.logs[log]);
+    }
     for (number, step) in case.steps.iter().enumerate() {
         println!("  {}. {step}", number + 1);
     }
@@ -205,14 +214,14 @@ fn hex(bytes: &[u8]) -> String {
 
 fn summary(options: &Options, compared: &Compared, reached: &Reached) {
     let states: u64 = compared.states.iter().sum();
-    println!("seed {}, {states} states, {} lists", options.seed, compared.lists);
+    println!("seed {}, {states} states, {} lists, {} cases of logs", options.seed, compared.lists, compared.logs);
     let modes: Vec<String> = MODES
         .iter()
         .zip(compared.states)
         .map(|(name, count)| format!("{name} {count}"))
         .collect();
     println!("states: {}", modes.join(", "));
-    println!("{:16}{:>10}   refused 1 to 7", "call", "accepted");
+    println!("{:16}{:>10}   refused 1 to 9", "call", "accepted");
     for (name, answers) in NAMES.iter().zip(reached.answers) {
         if answers.iter().any(|&count| count > 0) {
             let refused: String = answers[1..].iter().map(|count| format!("{count:>7}")).collect();
@@ -225,7 +234,21 @@ fn summary(options: &Options, compared: &Compared, reached: &Reached) {
         "refreshes of no line: {nothing}, of some: {some}, of all: {all}; against a full draw: {}",
         reached.full_draws
     );
-    println!("show's texts: {}", reached.shown);
+    let lengths: Vec<String> = LENGTHS
+        .iter()
+        .zip(reached.lengths)
+        .map(|(length, count)| format!("{length}: {count}"))
+        .collect();
+    println!("runs by their records: {}", lengths.join(", "));
+    let operations: Vec<String> = reached.operations.iter().map(u64::to_string).collect();
+    println!(
+        "runs that ended at a differing read: {}; records against single calls, by operation: {}",
+        reached.differing,
+        operations.join(", ")
+    );
+    let ([read, written], [accepted, refused]) = (reached.round_trips, reached.replayed);
+    println!("logs read and written back: {read}, written and read back: {written}");
+    println!("replays: {accepted}, and {refused} refused; show's texts: {}", reached.shown);
 }
 
 /// What each call can be refused with; 0 stands for accepted.
@@ -243,6 +266,9 @@ const REFUSALS: [&[usize]; NAMES.len()] = [
     &[0, 1, 2, 3, 5],
     &[0, 1, 2, 3],
     &[0, 1, 2, 3],
+    &[0, 1, 2, 3, 8, 9],
+    &[0, 8, 9],
+    &[0, 8, 9],
 ];
 
 fn missed(reached: &Reached) -> Vec<String> {
@@ -259,6 +285,11 @@ fn missed(reached: &Reached) -> Vec<String> {
         (reached.refreshes[1], "a refresh of some lines"),
         (reached.refreshes[2], "a refresh of all lines"),
         (reached.full_draws, "a full draw after a refresh"),
+        (reached.differing, "a run that ends at a differing read"),
+        (reached.round_trips[0], "a log read and written back"),
+        (reached.round_trips[1], "a log written and read back"),
+        (reached.replayed[0], "an accepted replay"),
+        (reached.replayed[1], "a refused replay"),
         (reached.shown, "a text of show"),
     ];
     missed.extend(
@@ -266,6 +297,12 @@ fn missed(reached: &Reached) -> Vec<String> {
             .filter(|&(count, _)| count == 0)
             .map(|(_, what)| what.to_string()),
     );
+    for (length, _) in LENGTHS.iter().zip(reached.lengths).filter(|&(_, count)| count == 0) {
+        missed.push(format!("a run of {length} records"));
+    }
+    for (operation, _) in reached.operations.iter().enumerate().filter(|&(_, &count)| count == 0) {
+        missed.push(format!("operation {operation} in a run"));
+    }
     missed
 }
 
@@ -286,7 +323,7 @@ fn plant_all(options: &Options, passed: &mut u64, failed: &mut u64) {
             }
             None => {
                 *failed += 1;
-                println!("FAILED: fault {number}, {name}: NOT FOUND in {} states and their lists", options.cases);
+                println!("FAILED: fault {number}, {name}: NOT FOUND in {} states, their logs and lists", options.cases);
             }
         }
         faults::plant(0);

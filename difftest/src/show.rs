@@ -1,12 +1,11 @@
 //! The show program's text.
 
 use std::io::Write;
-use std::path::PathBuf;
-use std::process::{Command, Stdio};
+use std::path::Path;
+use std::process::{Command, Output, Stdio};
 
-fn program() -> PathBuf {
-    PathBuf::from(concat!(env!("CARGO_MANIFEST_DIR"), "/../target/bin/show"))
-}
+/// Where the programs are.
+const PROGRAMS: &str = concat!(env!("CARGO_MANIFEST_DIR"), "/../target/bin");
 
 /// Runs show on a snapshot and holds its text against the reference's.
 pub fn differs(snapshot: &[u8], shown: &mut u64) -> Option<String> {
@@ -29,14 +28,20 @@ pub fn differs(snapshot: &[u8], shown: &mut u64) -> Option<String> {
 
 /// What show prints for this input.
 pub fn text(snapshot: &[u8]) -> std::io::Result<String> {
-    let mut child = Command::new(program())
+    let output = output("show", snapshot, Stdio::inherit())?;
+    Ok(String::from_utf8_lossy(&output.stdout).into_owned())
+}
+
+/// What a program writes for this input.
+pub fn output(program: &str, input: &[u8], error: Stdio) -> std::io::Result<Output> {
+    let mut child = Command::new(Path::new(PROGRAMS).join(program))
         .stdin(Stdio::piped())
         .stdout(Stdio::piped())
+        .stderr(error)
         .spawn()?;
-    if let Some(mut input) = child.stdin.take() {
+    if let Some(mut to) = child.stdin.take() {
         // A program that refuses early may leave input unread.
-        let _ = input.write_all(snapshot);
+        let _ = to.write_all(input);
     }
-    let output = child.wait_with_output()?;
-    Ok(String::from_utf8_lossy(&output.stdout).into_owned())
+    child.wait_with_output()
 }

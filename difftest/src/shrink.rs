@@ -1,4 +1,4 @@
-//! Makes a failing case small: fewer calls, then fewer bytes that are not zero.
+//! Makes a failing case small: fewer calls, fewer records, then fewer bytes that are not zero.
 
 use crate::calls::{run, Case, Reached};
 use std::time::{Duration, Instant};
@@ -19,6 +19,9 @@ pub fn shrink(case: &Case) -> Case {
     }
     for _ in 0..PASSES {
         fewer_steps(&mut best, &fails, start);
+        for log in best.steps.clone().into_iter().filter_map(|step| step.call.log()) {
+            fewer_records(&mut best, log, &fails, start);
+        }
         plain_steps(&mut best, &fails);
         for which in 0..4 {
             zeros(&mut best, which, &fails, start);
@@ -35,6 +38,32 @@ fn fewer_steps(best: &mut Case, fails: &impl Fn(&Case) -> bool, start: Instant) 
         while at < best.steps.len() && start.elapsed() < PATIENCE {
             let mut smaller = best.clone();
             smaller.steps.drain(at..(at + size).min(best.steps.len()));
+            if fails(&smaller) {
+                *best = smaller;
+            } else {
+                at += size;
+            }
+        }
+        size /= 2;
+    }
+}
+
+/// Deletes what is wrong with a log where it does not matter, and ever smaller stretches of records.
+fn fewer_records(best: &mut Case, log: usize, fails: &impl Fn(&Case) -> bool, start: Instant) {
+    for at in (0..best.logs[log].harms.len()).rev() {
+        let mut smaller = best.clone();
+        smaller.logs[log].harms.remove(at);
+        if fails(&smaller) {
+            *best = smaller;
+        }
+    }
+    let mut size = best.logs[log].records.len();
+    while size > 0 {
+        let mut at = 0;
+        while at < best.logs[log].records.len() && start.elapsed() < PATIENCE {
+            let mut smaller = best.clone();
+            let records = &mut smaller.logs[log].records;
+            records.drain(at..(at + size).min(records.len()));
             if fails(&smaller) {
                 *best = smaller;
             } else {

@@ -1,6 +1,7 @@
 //! The same calls with the state as a lent block of 15 bytes: the 14 of the
 //! snapshot, then the redraw mark. Each gives 256 * refusal + value.
 
+use crate::log::{self, Ran, OUTCOME_BYTES};
 use crate::refusal::{self, refused, Answer};
 use crate::snapshot::{
     self, snapshot_tests, state_from_bytes, state_to_bytes, SNAPSHOT_BYTES, STATE_BYTES,
@@ -181,4 +182,39 @@ pub fn vdp_write_snapshot(block: &[u8], vram: &[u8], snapshot: &mut [u8]) -> u32
         Err(no) => no.number(),
         Ok(state) => snapshot::write_snapshot(&state, vram, snapshot).number(),
     }
+}
+
+/// Also puts the records done and the place into the lent outcome, when
+/// accepted.
+pub fn vdp_run_log(
+    block: &mut [u8],
+    vram: &mut [u8],
+    map: &mut [u8],
+    line: &mut [u8],
+    log: &[u8],
+    outcome: &mut [u8],
+) -> u32 {
+    let lengths = [
+        vram_length(vram),
+        slice_length(map, MAP_BYTES),
+        slice_length(line, LINE_BYTES),
+        slice_length(outcome, OUTCOME_BYTES),
+    ];
+    over_block(block, &lengths, |state| {
+        let ran: Ran = log::run_log(state, vram, map, line, log);
+        if ran.answer.refusal == 0 {
+            outcome.copy_from_slice(&ran.outcome());
+        }
+        ran.answer
+    })
+}
+
+/// No block: a log alone.
+pub fn vdp_read_log(log: &[u8], records: &mut [u8]) -> u32 {
+    log::read_log(log, records).number()
+}
+
+/// No block: record bytes alone.
+pub fn vdp_write_log(records: &[u8], log: &mut [u8]) -> u32 {
+    log::write_log(records, log).number()
 }

@@ -45,8 +45,35 @@ pub const NOTE_NOT_WRITTEN: u32 = 20;
 /// Full draw leaves the map as it was.
 pub const FULL_DRAW_KEEPS_MAP: u32 = 21;
 
+/// A run makes the calls after a differing read too.
+pub const GOES_ON_AFTER_DIFFERING: u32 = 22;
+/// A run does not count the differing read among the records done.
+pub const DIFFERING_NOT_COUNTED: u32 = 23;
+/// A run gives the place after the differing read.
+pub const PLACE_ONE_TOO_HIGH: u32 = 24;
+/// A run gives the buffer or status as the differing read left it.
+pub const FOUND_AFTER_READ: u32 = 25;
+/// Data write in a run leaves the map alone.
+pub const RUN_FORGETS_MAP: u32 = 26;
+/// A log's sum has the trailer's first bytes in it.
+pub const SUM_WITH_TRAILER: u32 = 27;
+/// A log may have any distance.
+pub const DISTANCE_NOT_TESTED: u32 = 28;
+/// A record may have operation 7.
+pub const OPERATION_7: u32 = 29;
+/// A record may draw line 192.
+pub const LINE_192_IN_LOG: u32 = 30;
+/// A reset in a log may have any value.
+pub const RESET_WITH_VALUE: u32 = 31;
+/// Records are tested before lengths and trailer.
+pub const RECORD_TESTED_FIRST: u32 = 32;
+/// A run makes the calls before a wrong record.
+pub const RUN_BEFORE_TESTED: u32 = 33;
+/// The numbers of a log's trailer are read high byte first.
+pub const TRAILER_HIGH_FIRST: u32 = 34;
+
 /// The highest fault number.
-pub const LAST: u32 = 21;
+pub const LAST: u32 = 34;
 
 /// A few words for each fault, from 1 up.
 pub const NAMES: [&str; LAST as usize] = [
@@ -71,6 +98,19 @@ pub const NAMES: [&str; LAST as usize] = [
     "a refresh without the redraw mark only counts",
     "a refresh leaves the notes",
     "a full draw leaves the map",
+    "a run goes on after a differing read",
+    "a run does not count the differing read",
+    "a run gives a place one too high",
+    "a run gives the byte after the differing read",
+    "a data write in a run leaves the map",
+    "a log's sum has trailer bytes in it",
+    "a log's distance is not tested",
+    "operation 7 is let through",
+    "line 192 of a log is let through",
+    "a reset with a value is let through",
+    "records are tested before the log's form",
+    "records are run before all are tested",
+    "a log's trailer is read high byte first",
 ];
 
 thread_local! {

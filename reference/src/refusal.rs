@@ -14,13 +14,20 @@ pub const SNAPSHOT: u8 = 5;
 pub const TRAILER: u8 = 6;
 /// Snapshot sum wrong.
 pub const SUM: u8 = 7;
+/// Log or record bytes of wrong length, or a wrong trailer of a log.
+pub const LOG_FORM: u8 = 8;
+/// A record with a wrong operation or value.
+pub const LOG_RECORD: u8 = 9;
 
 /// Which refusal goes before which.
-pub const ORDER: [u8; 7] = [VRAM, SLICE, SNAPSHOT, TRAILER, SUM, STATE, LINE];
+pub const ORDER: [u8; 9] = [
+    VRAM, SLICE, SNAPSHOT, TRAILER, SUM, STATE, LINE, LOG_FORM, LOG_RECORD,
+];
 
 /// What a call answers: its refusal number (0 when accepted) and a value.
-/// The value is the byte read, the interrupt line or the count of redrawn
-/// lines, and 0 where the call has none of these or is refused.
+/// The value is the byte read, the interrupt line, the count of redrawn lines
+/// or the byte found by a run, and 0 where the call has none of these or is
+/// refused.
 #[derive(Clone, Copy, Debug, PartialEq, Eq)]
 pub struct Answer {
     pub refusal: u8,

@@ -3,7 +3,7 @@
 
 mod common;
 
-use common::{sprite_board, Lent};
+use common::{log_of, sprite_board, Lent};
 use reference::block::*;
 use reference::faults;
 use std::fmt::Debug;
@@ -284,4 +284,132 @@ fn fault_21_map_left_by_a_full_draw() {
         lent.refresh()
     };
     shows(faults::FULL_DRAW_KEEPS_MAP, case, 0, 8);
+}
+
+/// Runs records on a board with F on: the answer, records done and place, and
+/// the status left.
+fn ran(records: &[(u8, u8)]) -> (u32, u16, u16, u8) {
+    let mut lent = board(0, &[]);
+    lent.block[13] = 0x85;
+    lent.outcome.fill(0);
+    let (answer, done, place) = lent.run(records);
+    (answer, done, place, lent.status())
+}
+
+#[test]
+fn fault_22_goes_on() {
+    let case = || ran(&[(0, 7), (2, 6), (6, 0)]);
+    let fault = faults::GOES_ON_AFTER_DIFFERING;
+    shows(fault, case, (7, 2, 1, 0x85), (7, 2, 1, 0x00));
+}
+
+#[test]
+fn fault_23_not_counted() {
+    let case = || ran(&[(0, 7), (2, 6), (6, 0)]);
+    let fault = faults::DIFFERING_NOT_COUNTED;
+    shows(fault, case, (7, 2, 1, 0x85), (7, 1, 1, 0x85));
+}
+
+#[test]
+fn fault_24_place() {
+    let case = || ran(&[(0, 7), (2, 6), (6, 0)]);
+    let fault = faults::PLACE_ONE_TOO_HIGH;
+    shows(fault, case, (7, 2, 1, 0x85), (7, 2, 2, 0x85));
+}
+
+#[test]
+fn fault_25_found_after_the_read() {
+    let case = || ran(&[(3, 0x05)]);
+    let fault = faults::FOUND_AFTER_READ;
+    shows(fault, case, (0x85, 1, 0, 5), (5, 1, 0, 5));
+    let case = || ran(&[(1, 0x00), (1, 0x48), (0, 7), (2, 6)]);
+    shows(fault, case, (7, 4, 3, 0x85), (0xFF, 4, 3, 0x85));
+}
+
+#[test]
+fn fault_26_map_in_a_run() {
+    let case = || {
+        let mut lent = board(0, &[]);
+        lent.run(&[(1, 0x00), (1, 0x40), (0, 1)]);
+        (lent.vram[0], lent.map[0], lent.refresh())
+    };
+    shows(faults::RUN_FORGETS_MAP, case, (1, 1, 8), (1, 0, 0));
+}
+
+/// The answers of reader and run for a log, and whether the writer makes it.
+fn answers(log: &[u8]) -> (u32, u32, bool) {
+    let mut lent = board(0, &[]);
+    lent.log = log.to_vec();
+    lent.records = vec![0xEE; log.len().saturating_sub(4)];
+    let (read, run) = (lent.read_log() / 256, lent.run_log() / 256);
+    lent.records = log[..log.len().saturating_sub(4)].to_vec();
+    lent.log.fill(0xEE);
+    let written = lent.write_log() == 0 && lent.log == log;
+    (read, run, written)
+}
+
+#[test]
+fn fault_27_sum_with_trailer() {
+    let fault = faults::SUM_WITH_TRAILER;
+    let case = || answers(&[0, 9, 2, 0, 9, 0]);
+    shows(fault, case, (0, 0, true), (8, 8, false));
+    let case = || answers(&[0, 9, 2, 0, 11, 0]);
+    shows(fault, case, (8, 8, false), (0, 0, true));
+}
+
+#[test]
+fn fault_28_distance() {
+    let case = || answers(&[0, 9, 4, 0, 9, 0]);
+    let fault = faults::DISTANCE_NOT_TESTED;
+    shows(fault, case, (8, 8, false), (0, 0, false));
+}
+
+#[test]
+fn fault_29_operation_7() {
+    let fault = faults::OPERATION_7;
+    let case = || answers(&log_of(&[(7, 0)]));
+    shows(fault, case, (9, 9, false), (0, 0, true));
+    let case = || answers(&log_of(&[(8, 0)]));
+    shows(fault, case, (9, 9, false), (9, 9, false));
+}
+
+#[test]
+fn fault_30_line_192() {
+    let fault = faults::LINE_192_IN_LOG;
+    let case = || answers(&log_of(&[(4, 192)]));
+    shows(fault, case, (9, 9, false), (0, 0, true));
+    let case = || answers(&log_of(&[(4, 193)]));
+    shows(fault, case, (9, 9, false), (9, 9, false));
+}
+
+#[test]
+fn fault_31_reset_with_a_value() {
+    let fault = faults::RESET_WITH_VALUE;
+    let case = || answers(&log_of(&[(6, 1)]));
+    shows(fault, case, (9, 9, false), (0, 0, true));
+    let case = || answers(&log_of(&[(5, 1)]));
+    shows(fault, case, (9, 9, false), (9, 9, false));
+}
+
+#[test]
+fn fault_32_record_before_form() {
+    let case = || answers(&[7, 0, 2, 0, 8, 0]);
+    let fault = faults::RECORD_TESTED_FIRST;
+    shows(fault, case, (8, 8, false), (9, 9, false));
+}
+
+#[test]
+fn fault_33_run_before_tested() {
+    let fault = faults::RUN_BEFORE_TESTED;
+    let case = || ran(&[(6, 0), (7, 0)]);
+    shows(fault, case, (9 * 256, 0, 0, 0x85), (9 * 256, 0, 0, 0x00));
+}
+
+#[test]
+fn fault_34_trailer_high_first() {
+    let case = || answers(&[0, 9, 2, 0, 9, 0]);
+    let fault = faults::TRAILER_HIGH_FIRST;
+    shows(fault, case, (0, 0, true), (8, 8, true));
+    let case = || answers(&[0, 9, 0, 2, 0, 9]);
+    shows(fault, case, (8, 8, false), (0, 0, false));
 }

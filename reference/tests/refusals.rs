@@ -2,7 +2,7 @@
 
 mod common;
 
-use common::Lent;
+use common::{log_of, with_trailer, Lent};
 use reference::block::*;
 use reference::*;
 
@@ -21,11 +21,14 @@ enum Call {
     Refresh,
     ReadSnapshot,
     WriteSnapshot,
+    RunLog,
+    ReadLog,
+    WriteLog,
 }
 
 use Call::*;
 
-const CALLS: [Call; 13] = [
+const CALLS: [Call; 16] = [
     PowerUp,
     ControlWrite,
     DataWrite,
@@ -39,6 +42,9 @@ const CALLS: [Call; 13] = [
     Refresh,
     ReadSnapshot,
     WriteSnapshot,
+    RunLog,
+    ReadLog,
+    WriteLog,
 ];
 
 /// One thing wrong with what is lent.
@@ -56,6 +62,12 @@ enum Harm {
     Trailer,
     Sum,
     SnapshotContents,
+    Outcome,
+    LogForm,
+    LogLength,
+    RecordsLength,
+    LogRecord,
+    Record,
 }
 
 use Harm::*;
@@ -63,12 +75,14 @@ use Harm::*;
 fn refusal(harm: Harm) -> u32 {
     match harm {
         Vram => 1,
-        BlockLength | Line | Map | Frame | Notes => 2,
+        BlockLength | Line | Map | Frame | Notes | Outcome => 2,
         Contents | SnapshotContents => 3,
         Number => 4,
         SnapshotLength => 5,
         Trailer => 6,
         Sum => 7,
+        LogForm | LogLength | RecordsLength => 8,
+        LogRecord | Record => 9,
     }
 }
 
@@ -90,6 +104,18 @@ fn tested(call: Call) -> Vec<Harm> {
             SnapshotContents,
         ],
         WriteSnapshot => vec![Vram, BlockLength, SnapshotLength, Contents],
+        RunLog => vec![
+            Vram,
+            BlockLength,
+            Map,
+            Line,
+            Outcome,
+            Contents,
+            LogForm,
+            LogRecord,
+        ],
+        ReadLog => vec![LogForm, RecordsLength, LogRecord],
+        WriteLog => vec![LogLength, RecordsLength, Record],
     }
 }
 
@@ -128,6 +154,63 @@ fn set_sum(snapshot: &mut [u8]) {
     snapshot[16404..].copy_from_slice(&(sum as u16).to_le_bytes());
 }
 
+/// Makes one of the records wrong, the first or a later one.
+fn wrong_record(records: &mut [u8], way: usize) {
+    let wrong = [
+        [7, 0],
+        [4, 192],
+        [5, 1],
+        [6, 1],
+        [255, 0],
+        [4, 255],
+        [5, 255],
+        [6, 128],
+        [128, 9],
+        [8, 0],
+        [4, 193],
+        [7, 7],
+    ];
+    let at = [0, records.len() - 2, 4][way % 3];
+    records[at..at + 2].copy_from_slice(&wrong[way]);
+}
+
+/// Makes a log's length or trailer wrong in one of 12 ways.
+fn wrong_form(log: &mut Vec<u8>, way: usize) {
+    let trailer = log.len() - 4;
+    match way % 12 {
+        0 => log.truncate(3),
+        1 => log.clear(),
+        2 => log.push(0),
+        3 => *log = with_trailer(&[0; 40_002]),
+        4..=7 => log[trailer + way - 4] ^= 1,
+        8 => log[0] ^= 2,
+        9 => log.truncate(trailer + 2),
+        10 => log.extend([0, 0]),
+        _ => log[trailer..].swap(0, 1),
+    }
+}
+
+/// Wrong lengths of log and record bytes.
+fn wrong_lengths(harms: &[Harm], lent: &mut Lent, way: usize) {
+    if harms.contains(&LogLength) {
+        match way % 4 {
+            0 => lent.log.truncate(3),
+            1 => lent.log.clear(),
+            2 => lent.log.push(0),
+            _ => lent.log.resize(40_006, 0),
+        }
+    }
+    if harms.contains(&RecordsLength) {
+        match way % 5 {
+            0 => wrong_length(&mut lent.records, 0),
+            1 => lent.records.push(0),
+            2 => lent.records.extend([0, 0]),
+            3 => lent.records.resize(40_004, 0),
+            _ => lent.records.truncate(2),
+        }
+    }
+}
+
 /// Does the harms, those to contents before those to lengths.
 fn harmed(harms: &[Harm], way: usize) -> Lent {
     let mut lent = good();
@@ -148,7 +231,20 @@ fn harmed(harms: &[Harm], way: usize) -> Lent {
     if has(Number) {
         lent.number = [192, 255, 256, u32::MAX][way % 4];
     }
+    if has(Record) {
+        wrong_record(&mut lent.records, way);
+    }
+    if has(LogRecord) {
+        let mut records = lent.log[..lent.log.len() - 4].to_vec();
+        wrong_record(&mut records, way);
+        lent.log = with_trailer(&records);
+    }
+    if has(LogForm) {
+        wrong_form(&mut lent.log, way);
+    }
+    wrong_lengths(harms, &mut lent, way);
     for (harm, slice) in [
+        (Outcome, &mut lent.outcome),
         (Vram, &mut lent.vram),
         (BlockLength, &mut lent.block),
         (Line, &mut lent.line),
@@ -174,6 +270,17 @@ fn good() -> Lent {
     lent.notes.fill(0xEE);
     lent.line.fill(0xEE);
     lent.number = 191;
+    // Each operation, with every read as expected.
+    lent.log = log_of(&[
+        (0, 0x99),
+        (2, 0x99),
+        (3, 0xE7),
+        (4, 191),
+        (5, 0),
+        (6, 0),
+        (1, 0x87),
+    ]);
+    lent.records = vec![6, 0, 5, 0, 4, 0, 3, 7, 2, 7, 1, 7, 0, 7];
     lent
 }
 
@@ -192,6 +299,9 @@ fn run(call: Call, lent: &mut Lent) -> u32 {
         Refresh => lent.refresh(),
         ReadSnapshot => lent.read_snapshot(),
         WriteSnapshot => lent.write_snapshot(),
+        RunLog => lent.run_log(),
+        ReadLog => lent.read_log(),
+        WriteLog => lent.write_log(),
     }
 }
 
@@ -229,12 +339,30 @@ fn run_direct(call: Call, state: &mut State, lent: &mut Lent) -> Answer {
         }
         ReadSnapshot => read_snapshot(state, &mut lent.vram, &lent.snapshot),
         WriteSnapshot => write_snapshot(state, &lent.vram, &mut lent.snapshot),
+        RunLog => {
+            let Lent {
+                vram,
+                map,
+                line,
+                log,
+                ..
+            } = lent;
+            let ran = run_log(state, vram, map, line, log);
+            if ran.answer.refusal == 0 {
+                lent.outcome = ran.outcome().to_vec();
+            } else {
+                assert_eq!((ran.done, ran.place), (0, 0));
+            }
+            ran.answer
+        }
+        ReadLog => read_log(&lent.log, &mut lent.records),
+        WriteLog => write_log(&lent.records, &mut lent.log),
     }
 }
 
 /// The number that goes first by the paper's order.
 fn expected(harms: &[Harm]) -> u32 {
-    [1, 2, 5, 6, 7, 3, 4]
+    [1, 2, 5, 6, 7, 3, 4, 8, 9]
         .into_iter()
         .find(|&number| harms.iter().any(|&harm| refusal(harm) == number))
         .unwrap_or(0)
@@ -273,7 +401,7 @@ fn every_choice_of_harms_over_blocks() {
 fn every_choice_of_harms_directly() {
     for call in CALLS {
         let mut direct = tested(call);
-        direct.retain(|&harm| harm != BlockLength);
+        direct.retain(|&harm| harm != BlockLength && harm != Outcome);
         for harms in choices(&direct) {
             for way in 0..WAYS {
                 let before = harmed(&harms, way);
@@ -343,7 +471,7 @@ fn a_redraw_mark_of_neither_0_nor_1() {
             lent.block[14] = mark;
             let before = lent.clone();
             let number = run(call, &mut lent);
-            if call == PowerUp || call == ReadSnapshot {
+            if [PowerUp, ReadSnapshot, ReadLog, WriteLog].contains(&call) {
                 assert_eq!(number, 0);
             } else {
                 assert_eq!(number, 3 * 256, "{call:?}");

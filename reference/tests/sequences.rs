@@ -3,9 +3,10 @@
 
 mod common;
 
-use common::{Lent, Random};
+use common::{log_of, Lent, Random};
 use reference::block::*;
-use reference::{faults, show};
+use reference::{faults, replay, show};
+use std::collections::BTreeMap;
 
 /// VRAM in which many sprites cover many lines.
 fn busy(random: &mut Random) -> Lent {
@@ -182,8 +183,10 @@ fn no_input_panics() {
         let (mut vram, mut map) = (slice(16384), slice(2048));
         let (mut frame, mut notes, mut line) = (slice(49152), slice(192), slice(256));
         let mut snapshot = slice(16406);
+        let (mut log, mut records, mut outcome) = (slice(44), slice(40), slice(4));
         let number = round.wrapping_mul(0x0101_0101);
         show(&snapshot);
+        replay(&snapshot);
         vdp_read_snapshot(&mut block, &mut vram, &snapshot);
         vdp_control_write(&mut block, &vram, 7);
         vdp_data_write(&mut block, &mut vram, &mut map, 7);
@@ -192,12 +195,59 @@ fn no_input_panics() {
         vdp_refresh(&mut block, &vram, &mut map, &mut frame, &mut notes);
         vdp_full_draw(&mut block, &vram, &mut map, &mut frame, &mut notes);
         vdp_write_snapshot(&block, &vram, &mut snapshot);
+        vdp_write_log(&records, &mut log);
+        vdp_read_log(&log, &mut records);
+        vdp_run_log(
+            &mut block,
+            &mut vram,
+            &mut map,
+            &mut line,
+            &log,
+            &mut outcome,
+        );
+        snapshot.extend(log);
+        replay(&snapshot);
         vdp_interrupt_line(&block);
         vdp_status_read(&mut block);
         vdp_end_of_display(&mut block);
         vdp_reset(&mut block);
         vdp_power_up(&mut block, &mut vram);
     }
+}
+
+/// A random log: now and then with a wrong record, a wrong trailer or both.
+fn some_log(random: &mut Random) -> Vec<u8> {
+    let mut records = Vec::new();
+    for _ in 0..random.below(12) {
+        records.push(match random.below(8) as u8 {
+            4 => (4, random.below(192) as u8),
+            operation @ (5 | 6) => (operation, 0),
+            operation => (operation % 7, random.byte()),
+        });
+    }
+    if random.chance(2) {
+        let wrong = [(7, 0), (4, 192), (5, 1), (6, 1), (6, 255), (9, 9)];
+        let at = random.below(records.len() as u32 + 1) as usize;
+        records.insert(at, wrong[random.below(6) as usize]);
+    }
+    let mut log = log_of(&records);
+    if random.chance(3) {
+        let at = log.len() - 1 - random.below(4) as usize;
+        log[at] ^= 1 << random.below(8);
+    }
+    log
+}
+
+/// Reads, writes and runs a log.
+fn log_calls(lent: &mut Lent, random: &mut Random) -> Vec<u32> {
+    lent.log = some_log(random);
+    lent.records = vec![0xEE; lent.log.len() - 4];
+    let mut answers = vec![lent.read_log(), lent.run_log()];
+    if answers[0] == 0 {
+        lent.log.fill(0xEE);
+        answers.push(lent.write_log());
+    }
+    answers
 }
 
 /// All that a list of calls with refreshes leaves and answers.
@@ -228,6 +278,9 @@ fn trace(seed: u64) -> Vec<(Vec<u32>, Lent)> {
         answers.push(lent.refresh());
         trace.push((answers, lent.clone()));
         trace.push((vec![lent.write(2), lent.full_draw()], lent.clone()));
+        for _ in 0..20 {
+            trace.push((log_calls(&mut lent, &mut random), lent.clone()));
+        }
         vdp_reset(&mut lent.block);
         trace.push((vec![lent.refresh()], lent));
     }
@@ -236,13 +289,14 @@ fn trace(seed: u64) -> Vec<(Vec<u32>, Lent)> {
 
 #[test]
 fn each_planted_fault_shows() {
+    let mut rights = BTreeMap::new();
     for number in 1..=faults::LAST {
         let seen = (31337..31357).any(|seed| {
-            let right = trace(seed);
+            let right = rights.entry(seed).or_insert_with(|| trace(seed));
             faults::plant(number);
             let wrong = trace(seed);
             faults::plant(0);
-            right != wrong
+            *right != wrong
         });
         assert!(seen, "fault {number} was not seen");
     }

@@ -19,7 +19,8 @@ def snapshot(changes=(), summed=True):
     return bytes(data)
 
 
-def main(folder):
+def refused_snapshots():
+    """Names, refusal numbers and bytes."""
     cases = []
 
     def refused(name, number, data):
@@ -55,11 +56,16 @@ def main(folder):
     refused("sum_and_register", 7, snapshot([(BLOCK, 0xFF)], summed=False))
     refused("sum_and_flag", 7, snapshot([(BLOCK + 11, 2)], summed=False))
     refused("distance_and_first_byte", 6, snapshot([(TRAILER + 2, 0), (BLOCK + 12, 1)]))
-    for name, number, data in cases:
+    return cases
+
+
+def main(folder):
+    for name, number, data in refused_snapshots():
         with open(os.path.join(folder, name + ".snap"), "wb") as file:
             file.write(data)
         with open(os.path.join(folder, name + ".number"), "w") as file:
             file.write("%d" % number)
 
 
-main(sys.argv[1])
+if __name__ == "__main__":
+    main(sys.argv[1])

@@ -15,6 +15,9 @@ pub struct Lent {
     pub line: Vec<u8>,
     pub number: u32,
     pub snapshot: Vec<u8>,
+    pub log: Vec<u8>,
+    pub records: Vec<u8>,
+    pub outcome: Vec<u8>,
 }
 
 impl Lent {
@@ -29,6 +32,9 @@ impl Lent {
             line: vec![0; 256],
             number: 0,
             snapshot: vec![0; 16406],
+            log: vec![0; 4],
+            records: Vec::new(),
+            outcome: vec![0xEE; 4],
         };
         assert_eq!(vdp_power_up(&mut lent.block, &mut lent.vram), 0);
         assert_eq!(lent.write_snapshot(), 0);
@@ -101,6 +107,33 @@ impl Lent {
         vdp_read_snapshot(&mut self.block, &mut self.vram, &self.snapshot)
     }
 
+    pub fn run_log(&mut self) -> u32 {
+        vdp_run_log(
+            &mut self.block,
+            &mut self.vram,
+            &mut self.map,
+            &mut self.line,
+            &self.log,
+            &mut self.outcome,
+        )
+    }
+
+    pub fn read_log(&mut self) -> u32 {
+        vdp_read_log(&self.log, &mut self.records)
+    }
+
+    pub fn write_log(&mut self) -> u32 {
+        vdp_write_log(&self.records, &mut self.log)
+    }
+
+    /// Runs these records: the answer, the records done and the place.
+    pub fn run(&mut self, records: &[(u8, u8)]) -> (u32, u16, u16) {
+        self.log = log_of(records);
+        let answer = self.run_log();
+        let number = |at: usize| u16::from_le_bytes([self.outcome[at], self.outcome[at + 1]]);
+        (answer, number(0), number(2))
+    }
+
     /// Puts a sprite's four attributes where register 5 says.
     pub fn sprite(&mut self, number: usize, attributes: [u8; 4]) {
         let at = usize::from(self.block[5]) * 128 + 4 * number;
@@ -114,6 +147,22 @@ pub fn sprite_board(register_1: u8) -> Lent {
     let mut lent = Lent::with_registers([0, 0x40 | register_1, 0, 0x80, 3, 0x20, 1, 0]);
     lent.sprite(0, [208, 0, 0, 0]);
     lent
+}
+
+/// Record bytes with the trailer that they ought to have.
+pub fn with_trailer(records: &[u8]) -> Vec<u8> {
+    let distance = records.len();
+    let sum: usize = records.iter().map(|&byte| usize::from(byte)).sum();
+    let trailer = [distance, distance / 256, sum, sum / 256];
+    let mut log = records.to_vec();
+    log.extend(trailer.map(|number| (number % 256) as u8));
+    log
+}
+
+/// A log of these records, right or not.
+pub fn log_of(records: &[(u8, u8)]) -> Vec<u8> {
+    let bytes: Vec<u8> = records.iter().flat_map(|&(o, v)| [o, v]).collect();
+    with_trailer(&bytes)
 }
 
 /// Small repeatable random numbers.
