@@ -1,16 +1,19 @@
 //! How fast the library is, in multiples of filling a frame with memset. All in one run; best and
 //! median of many.
 
+mod logs;
 mod pictures;
 mod timing;
 
 use difftest::library::{Calls, LIBRARY, REFERENCE};
 use difftest::show;
+use logs::{LOGS, RECORDS};
 use pictures::{picture, Picture, CHANGES, MODES, SPRITES};
 use timing::{in_turn, time};
 
 const ROUNDS: usize = 2000;
 const SLOW_ROUNDS: usize = 20;
+const LOG_ROUNDS: usize = 500;
 const SHOWS: usize = 200;
 const MEMSETS: usize = 16;
 
@@ -18,6 +21,7 @@ fn main() {
     draw_table();
     refresh_table();
     port_table();
+    log_table();
     show_table();
 }
 
@@ -136,6 +140,27 @@ fn data_write(calls: &Calls, lent: &mut Picture) {
 fn control_pair(calls: &Calls, lent: &mut Picture) {
     (calls.control_write)(&mut lent.block, &lent.vram, 0x34);
     (calls.control_write)(&mut lent.block, &lent.vram, 0x52);
+}
+
+/// A log's run and the same calls made singly, in turn. The last column is to be at most 1.
+fn log_table() {
+    println!(
+        "{:56}{:>8}{:>9}{:>13}{:>9}{:>13}",
+        "logs of 20,000, in nanoseconds a record", "best", "median", "singly best", "median", "run/singly"
+    );
+    for (name, log, singly) in LOGS {
+        let (times, single) = in_turn(LOG_ROUNDS, &mut log(), logs::run, singly, 1);
+        let each = |nanoseconds: f64| nanoseconds / RECORDS as f64;
+        println!(
+            "{name:56}{:>8.2}{:>9.2}{:>13.2}{:>9.2}{:>13.2}",
+            each(times.best),
+            each(times.median),
+            each(single.best),
+            each(single.median),
+            times.best / single.best
+        );
+    }
+    println!();
 }
 
 const SAMPLES: [&str; 4] = ["graphics1", "graphics2", "multicolor", "text"];
