@@ -39,11 +39,11 @@ vram-fifteen block vram number z =
     eqb-true _ _ (all-pass (vramTest vram ∷ sliceTest blockSize block ∷ []) (refl, (refl, tt)) (passes (vramEntry block vram) number z) .1 .0)
 
 -- A test of VRAM's length, and one of another slice's, by whether it passes.
-abbrev pub long : Bool → Test
-long p = record { refusal = VramLength; passes = p }
+abbrev pub vramTested : Bool → Test
+vramTested p = record { refusal = VramLength; passes = p }
 
-abbrev pub fits : Bool → Test
-fits q = record { refusal = SliceLength; passes = q }
+abbrev pub sliceTested : Bool → Test
+sliceTested q = record { refusal = SliceLength; passes = q }
 
 -- The run of a log makes the same tests at entry, and then that of the outcome's length.
 module _ (block vram outcome : List ℕ) where
@@ -51,7 +51,7 @@ module _ (block vram outcome : List ℕ) where
   unfolding vramEntry runEntry
   run-entry-refused = by (eqb (length vram) 16384) (eqb (length block) 15) (eqb (length outcome) 4)
     where
-      by : (p q o : Bool) → isAccepted (refusalOf (long p ∷ fits q ∷ [])) ≡ false → refusalOf (long p ∷ fits q ∷ fits o ∷ []) ≡ refusalOf (long p ∷ fits q ∷ [])
+      by : (p q o : Bool) → isAccepted (refusalOf (vramTested p ∷ sliceTested q ∷ [])) ≡ false → refusalOf (vramTested p ∷ sliceTested q ∷ sliceTested o ∷ []) ≡ refusalOf (vramTested p ∷ sliceTested q ∷ [])
       by true true o e = absurd (differ e)
       by true false o e = refl
       by false q o e = refl
@@ -60,7 +60,7 @@ module _ (block vram outcome : List ℕ) where
   unfolding vramEntry runEntry
   run-entry-passed = by (eqb (length vram) 16384) (eqb (length block) 15) (eqb (length outcome) 4)
     where
-      by : (p q o : Bool) → isAccepted (refusalOf (long p ∷ fits q ∷ [])) ≡ true → refusalOf (long p ∷ fits q ∷ fits o ∷ []) ≡ refusalOf (fits o ∷ [])
+      by : (p q o : Bool) → isAccepted (refusalOf (vramTested p ∷ sliceTested q ∷ [])) ≡ true → refusalOf (vramTested p ∷ sliceTested q ∷ sliceTested o ∷ []) ≡ refusalOf (sliceTested o ∷ [])
       by true true o e = refl
       by true false o e = absurd (differ (sym e))
       by false q o e = absurd (differ (sym e))

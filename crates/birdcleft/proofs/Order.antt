@@ -1,6 +1,6 @@
 -- The order of tests of a call from C. A call makes some tests at entry and the others in the direct call, on the state that
 -- the block decodes to. It answers all the same as if it made them together in the one order: the direct call's tests, and
--- the block's length with them.
+-- the block's length with them, and for the run of a log the outcome's.
 use Prim.Native.Nat.{ℕ, _+_, _*_}
 use mir.Val.{boolByte}
 use mathlib.Core.Path.{_≡_, refl, sym, ap, _∙_}
@@ -28,7 +28,7 @@ use Rattle.birdcleft.specs.Lines.{drawLine}
 use Rattle.birdcleft.specs.Frames.{fullDraw, refresh}
 use Rattle.birdcleft.specs.Snapshots.{readSnapshot, writeSnapshot}
 use Rattle.birdcleft.specs.Logs.{outcomeSize, runEntry, runLog}
-use Rattle.birdcleft.proofs.Laws.{long, fits}
+use Rattle.birdcleft.proofs.Laws.{vramTested, sliceTested}
 
 -- The result of a call that makes these tests together: 256 times the number of the first refusal in the one order, and the
 -- number that the call reads where every test passes.
@@ -42,7 +42,7 @@ module _ (ts : List Test) (other : gives ts VramLength ≡ false) (number : ℕ)
   unfolding vramEntry
   vram-in-order vram = by (eqb (length vram) 16384) (eqb (length block) 15)
     where
-      by : (p q : Bool) → let entry = refusalOf (long p ∷ fits q ∷ []) in ifAccepted entry (resultAfter (long p ∷ ts) number) (numberOf entry * 256) ≡ resultAfter (fits q ∷ long p ∷ ts) number
+      by : (p q : Bool) → let entry = refusalOf (vramTested p ∷ sliceTested q ∷ []) in ifAccepted entry (resultAfter (vramTested p ∷ ts) number) (numberOf entry * 256) ≡ resultAfter (sliceTested q ∷ vramTested p ∷ ts) number
       by true true = refl
       by true false = rw other
       by false q = refl
@@ -52,7 +52,7 @@ module _ (ts : List Test) (other : gives ts VramLength ≡ false) (number : ℕ)
   unfolding runEntry
   run-in-order vram outcome = by (eqb (length vram) 16384) (eqb (length block) 15) (eqb (length outcome) 4)
     where
-      by : (p q o : Bool) → let entry = refusalOf (long p ∷ fits q ∷ fits o ∷ []) in ifAccepted entry (resultAfter (long p ∷ ts) number) (numberOf entry * 256) ≡ resultAfter (fits q ∷ fits o ∷ long p ∷ ts) number
+      by : (p q o : Bool) → let entry = refusalOf (vramTested p ∷ sliceTested q ∷ sliceTested o ∷ []) in ifAccepted entry (resultAfter (vramTested p ∷ ts) number) (numberOf entry * 256) ≡ resultAfter (sliceTested q ∷ sliceTested o ∷ vramTested p ∷ ts) number
       by true true true = refl
       by true true false = rw other
       by true false o = rw other
@@ -62,7 +62,7 @@ module _ (ts : List Test) (other : gives ts VramLength ≡ false) (number : ℕ)
   unfolding blockEntry
   block-in-order = by (eqb (length block) 15)
     where
-      by : (q : Bool) → let entry = refusalOf (fits q ∷ []) in ifAccepted entry (resultAfter ts number) (numberOf entry * 256) ≡ resultAfter (fits q ∷ ts) number
+      by : (q : Bool) → let entry = refusalOf (sliceTested q ∷ []) in ifAccepted entry (resultAfter ts number) (numberOf entry * 256) ≡ resultAfter (sliceTested q ∷ ts) number
       by true = refl
       by false = rw other
 

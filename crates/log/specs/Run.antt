@@ -1,10 +1,8 @@
 -- The run of a log: its records' calls, one after another, until a read differs from what is expected.
-use Prim.Native.Nat.{ℕ, _+_, _*_}
-use mathlib.Core.Path.{_≡_}
+use Prim.Native.Nat.{ℕ, _+_}
 use mathlib.Core.Bool.{Bool, cond, not, _&&_}
 use mathlib.Core.List.{List, [], _∷_}
 use lib.Dec.{eqb}
-use lib.ListN.{drop}
 use Rattle.chip.specs.Map.{mapSize}
 use Rattle.chip.specs.Refusals.{Test, vramTest, sliceTest, stateTest, refusalOf, ifAccepted}
 use Rattle.chip.specs.declared.state.Chip.{Chip}
@@ -38,16 +36,6 @@ runFrom i (r ∷ rs) t =
     cond (differs r (answerTo r t .value))
     (record { target = after r t; done = i + 1; place = i; found = answerTo r t .value })
     (runFrom (i + 1) rs (after r t))
-
--- The run of record bytes from place i on.
-abbrev pub runRest : List ℕ → ℕ → Target → End
-runRest records i t = runFrom i (recordsOf (drop (2 * i) records)) t
-
--- That a run from place i on, with state c and these lists, ends as one from place j on with d and those, whatever the slice for
--- lines holds.
-abbrev pub EndsAlike : List ℕ → ℕ → Chip → List ℕ → List ℕ → ℕ → Chip → List ℕ → List ℕ → Type 0
-EndsAlike records i c vram map j d vram′ map′ =
-    (line : List ℕ) → runRest records i (target c vram map line) ≡ runRest records j (target d vram′ map′ line)
 
 -- An end as an accepted run hands it back, with the state.
 abbrev pub ranOf : End → Ran

@@ -1,4 +1,4 @@
-// The single call that a record names.
+// The single call that a record names. (A run takes data writes together, in stretch.rt, and does not come here with one.)
 ghost use mathlib.Core.Path.{_≡_};
 ghost use Rattle.log.specs.Single as single;
 use crate::records::Operation;

@@ -2,7 +2,7 @@
 ghost use mathlib.Core.Path.{_≡_};
 ghost use Prim.Native.Nat.{_+_, _*_, _/_, _≤_, _<_};
 ghost use lib.ListN.{length, getD};
-ghost use Rattle.log.specs.Run.{EndsAlike};
+ghost use Rattle.log.specs.Rest.{EndsAlike};
 use crate::records::record_at;
 use chip::Chip;
 

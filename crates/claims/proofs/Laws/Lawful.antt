@@ -74,7 +74,7 @@ abbrev pub inResult : List ℕ → Left Chip → Left (List ℕ)
 inResult block l =
     leaves (ofResult block (l .reply .refusal * 256 + getD (l .reply .values) 0 0)) (l .vram) (l .map) (l .frame) (l .notes) (l .reply .slices)
 
-parts : (n x : ℕ) → x < 256 → ((n * 256 + x) / 256 ≡ n) × ((n * 256 + x) % 256 ≡ x)
+pub parts : (n x : ℕ) → x < 256 → ((n * 256 + x) / 256 ≡ n) × ((n * 256 + x) % 256 ≡ x)
 parts n x h = (omega arith, omega arith)
 
 -- The result read back, where the call answers one byte v.

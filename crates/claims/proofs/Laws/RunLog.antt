@@ -4,15 +4,15 @@ use native.Mathlib.Omega.{arith}
 use mathlib.Core.Path.{_≡_, refl, sym, ap, subst, _∙_}
 use mathlib.Core.Bool.{Bool, true, false, cond}
 use mathlib.Core.List.{List, [], _∷_}
-use lib.Dec.{eqb, leb}
+use lib.Dec.{eqb, leb, lit<}
 use lib.ListN.{length}
 use borrow.Author.Tests.{eqb-true}
 use Rattle.chip.specs.State.{Bytes, Fits}
 use Rattle.chip.specs.Layout.{blockOf, chipOf}
-use Rattle.chip.specs.Refusals.{Test, sliceTest, numberOf, isAccepted, refusalOf, resultOf, ifAccepted}
+use Rattle.chip.specs.Refusals.{sliceTest, numberOf, isAccepted, refusalOf, resultOf, ifAccepted}
 use Rattle.chip.specs.declared.state.Chip.{Chip}
 use Rattle.chip.specs.declared.refusal.Refusal.{Refusal}
-use Rattle.chip.specs.declared.refusal.Refusal.the-variants.{Accepted, SliceLength}
+use Rattle.chip.specs.declared.refusal.Refusal.the-variants.{Accepted}
 use Rattle.chip.proofs.Laws.Layout.{chip-block}
 use Rattle.chip.proofs.Laws.Lists.{bytes-take}
 use Rattle.chip.proofs.Laws.Ranges.{and-left, and-right}
@@ -31,13 +31,14 @@ use Rattle.log.proofs.Laws.Tested.{ran-refusal, accepted-sound, accepted-log}
 use Rattle.log.proofs.Laws.Sound.{Sound, passes, sound-after, Values, values-bytes, run-sound, found-byte}
 use Rattle.birdcleft.specs.Calls.{resultThrough, blockThrough, listThrough}
 use Rattle.birdcleft.specs.Logs.{outcomeSize, runEntry, reported}
+use Rattle.birdcleft.proofs.Laws.{sliceTested}
 use Rattle.claims.specs.Bench.{Bench}
 use Rattle.claims.specs.Call.{Op}
 use Rattle.claims.specs.Description.{Left, tests, ofRan, ofOutcome, runs}
 use Rattle.claims.specs.Descriptions.{described}
 use Rattle.claims.specs.SingleCalls.{singleBy}
 use Rattle.claims.proofs.Laws.Invariant.{Invariant, Effect, bench, keeps, makes-calls}
-use Rattle.claims.proofs.Laws.Lawful.{benchOf, decodedLeft, asLent, entryTests, Lawful}
+use Rattle.claims.proofs.Laws.Lawful.{parts, benchOf, decodedLeft, asLent, entryTests, Lawful}
 use Rattle.claims.proofs.Laws.RecordCalls.{control-write-lawful, data-write-lawful, data-read-lawful, status-read-lawful, end-of-display-lawful, reset-lawful, draw-line-lawful}
 
 single-lawful : (op : Operation) (v : ℕ) (line : List ℕ) → Lawful (described (singleBy op v line))
@@ -151,15 +152,12 @@ module _ (line log outcome : List ℕ) where
   unfolding runEntry resultThrough blockThrough listThrough
   entered-left b e = rw e
 
-  parts : (x : ℕ) → x < 256 → ((0 * 256 + x) / 256 ≡ 0) × ((0 * 256 + x) % 256 ≡ x)
-  parts x h = (omega arith, omega arith)
-
   pair : (n : ℕ) → n % 256 + 256 * (n / 256) ≡ n
   pair n = omega arith
 
   accepted-back : (b : Bench) (e : End) (vram map drawn : List ℕ) → e .found < 256 → length (e .target .chip .registers) ≡ 8 → decodedLeft (leftFromC b (ranOf e) vram map drawn) ≡ leftDirectly b (ranOf e) vram map drawn
   accepted-back b e vram map drawn small eight =
-      let both = parts (e .found) small in
+      let both = parts 0 (e .found) small in
       λ i.
       record {
         state = chip-block (e .target .chip) eight i;
@@ -177,12 +175,11 @@ module _ (line log outcome : List ℕ) where
   refused-back : (b : Bench) (n : Refusal) (vram map drawn : List ℕ) → isAccepted n ≡ false → length (b .chip .registers) ≡ 8 → decodedLeft (leftFromC b (refusedRun (b .chip) n) vram map drawn) ≡ leftDirectly b (refusedRun (b .chip) n) vram map drawn
   refused-back b n vram map drawn e eight =
       let block : List ℕ = blockOf (b .chip) in
-      let high : (numberOf n * 256 + 0) / 256 ≡ numberOf n = omega arith in
-      let low : (numberOf n * 256 + 0) % 256 ≡ 0 = omega arith in
+      let both = parts (numberOf n) 0 (lit< tt) in
       let numbers : List ℕ = pairAt (reported (refusedRun (b .chip) n) outcome) 0 ∷ pairAt (reported (refusedRun (b .chip) n) outcome) 2 ∷ [] in
       let state : chipOf (cond (isAccepted n) block block) ≡ b .chip = ap (λ (a : Bool). chipOf (cond a block block)) e ∙ chip-block (b .chip) eight in
       let none : cond (eqb ((numberOf n * 256 + 0) / 256) 0) numbers (0 ∷ 0 ∷ []) ≡ 0 ∷ 0 ∷ [] =
-      ap (λ (k : ℕ). cond (eqb k 0) numbers (0 ∷ 0 ∷ [])) high ∙ ap (λ (a : Bool). cond a numbers (0 ∷ 0 ∷ [])) e in
+      ap (λ (k : ℕ). cond (eqb k 0) numbers (0 ∷ 0 ∷ [])) (both .0) ∙ ap (λ (a : Bool). cond a numbers (0 ∷ 0 ∷ [])) e in
       λ i.
       record {
         state = state i;
@@ -190,7 +187,7 @@ module _ (line log outcome : List ℕ) where
         map = map;
         frame = b .frame;
         notes = b .notes;
-        reply = record { refusal = high i; values = low i ∷ none i; slices = drawn ∷ [] };
+        reply = record { refusal = both .0 i; values = both .1 i ∷ none i; slices = drawn ∷ [] };
       }
 
   read-back : (b : Bench) → Fits (b .chip) → Bytes (b .vram) → Bytes log → decodedLeft (leftBy b (b .chip)) ≡ described op .directly b
@@ -238,10 +235,7 @@ module _ (line log outcome : List ℕ) where
   outcome-first : isAccepted (refusalOf (sliceTest outcomeSize outcome ∷ [])) ≡ false → refusalOf (sliceTest outcomeSize outcome ∷ runOwnTests line log) ≡ refusalOf (sliceTest outcomeSize outcome ∷ [])
   outcome-first = by (eqb (length outcome) outcomeSize)
     where
-      fits : Bool → Test
-      fits o = record { refusal = SliceLength; passes = o }
-
-      by : (o : Bool) → isAccepted (refusalOf (fits o ∷ [])) ≡ false → refusalOf (fits o ∷ runOwnTests line log) ≡ refusalOf (fits o ∷ [])
+      by : (o : Bool) → isAccepted (refusalOf (sliceTested o ∷ [])) ≡ false → refusalOf (sliceTested o ∷ runOwnTests line log) ≡ refusalOf (sliceTested o ∷ [])
       by true e = absurd (differ e)
       by false e = refl
 

@@ -11,7 +11,8 @@ use Rattle.chip.specs.declared.state.Chip.{Chip}
 use Rattle.chip.specs.declared.refusal.Answer.{Answer}
 use Rattle.log.specs.Records.{operationOf, isRead, recordsOf, recordAt}
 use Rattle.log.specs.Single.{Target, target, answerBy, vramBy, mapBy, lineBy, answerTo, after}
-use Rattle.log.specs.Run.{differs, End, runFrom, runRest, EndsAlike}
+use Rattle.log.specs.Run.{differs, End, runFrom}
+use Rattle.log.specs.Rest.{runRest, EndsAlike}
 use Rattle.log.specs.declared.records.Operation.{Operation}
 use Rattle.log.specs.declared.records.Operation.the-variants.{DataWrite}
 use Rattle.log.specs.declared.records.Record.{Record}

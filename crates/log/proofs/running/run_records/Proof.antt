@@ -7,7 +7,8 @@ use denote.Ref.{now}
 use borrow.Author.Needs.{needs}
 use Rattle.log.specs.Records.{recordsOf}
 use Rattle.log.specs.Single.{target}
-use Rattle.log.specs.Run.{End, runFrom, runRest, ranOf}
+use Rattle.log.specs.Run.{End, runFrom, ranOf}
+use Rattle.log.specs.Rest.{runRest}
 use Rattle.log.specs.declared.records.Record.{Record}
 use Rattle.log.proofs.Laws.Steps.{rest-over, rest-differs, rest-goes-on}
 use Rattle.log.proofs.running.run_records.Statement.{statement}

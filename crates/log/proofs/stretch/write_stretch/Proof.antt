@@ -5,7 +5,7 @@ use mathlib.Core.Path.{_≡_, refl, _∙_}
 use lib.ListN.{length, getD}
 use denote.Ref.{now}
 use borrow.Author.Needs.{needs}
-use Rattle.log.specs.Run.{EndsAlike}
+use Rattle.log.specs.Rest.{EndsAlike}
 use Rattle.log.proofs.Laws.Steps.{data-write-goes-on}
 use Rattle.log.proofs.stretch.write_stretch.Statement.{statement}
 use Rattle.log.proofs.stretch.write_stretch.Tie as tie
