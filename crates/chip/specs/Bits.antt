@@ -1,4 +1,4 @@
--- Single bits of a byte, counted from the least significant.
+-- Single bits of a number, counted from the least significant.
 use Prim.Native.Nat.{ℕ, _/_, _%_, _^_}
 use mathlib.Core.Bool.{Bool}
 use lib.Bits.{bitOr}

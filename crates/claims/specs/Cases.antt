@@ -128,7 +128,8 @@ P8 =
     (colours (spriteRegisters 3) (withSprite 255 1 0x8F allSet) 0 ≡ 15 ∷ replicate 255 5)
     × (colours (spriteRegisters 3) (withSprite 255 0 0x8F allSet) 0 ≡ replicate 256 5)
 
--- P9: sprites 0, 3, 5, 9 and 12 cover line 100 side by side, the others do not, and there is no terminator.
+-- P9: sprites 0, 3, 5, 9 and 12 cover line 100 side by side, with no column in common on the screen or beside it; the others
+-- do not cover it, and there is no terminator.
 abbrev pub covering : ℕ → List ℕ
 covering x = 99 ∷ x ∷ 0 ∷ 15 ∷ []
 

@@ -115,14 +115,32 @@ fn two(label: &[u8], x: u8, colour: u8, other_x: u8, other_colour: u8) {
     );
 }
 
-// The lower number lies in front; colour 0 lets through what is behind it; bits that meet off the screen do not count.
+// The lower number lies in front; colour 0 lets through what is behind it.
 fn order() {
     two(b"sprite 0 over sprite 1", 100, 0x03, 104, 0x05);
     two(b"colour 0 over sprite 1", 100, 0x00, 104, 0x05);
     two(b"two of colour 0", 100, 0x00, 104, 0x00);
     two(b"side by side", 100, 0x03, 108, 0x05);
     two(b"early clock, side by side", 100, 0x83, 92, 0x85);
-    two(b"over each other off the screen", 0, 0x83, 2, 0x85);
+}
+
+// Two sprites with pattern 4 over the right edge, of which line 57 has the last bit alone.
+fn two_at_right(label: &[u8], x: u8, other_x: u8) {
+    sprites(
+        label,
+        &[49, x, 4, 0x03, 49, other_x, 4, 0x05, 0xD0],
+        graphics(0),
+        57,
+    );
+}
+
+// Bits that meet beside the screen coincide too.
+fn beside() {
+    two(b"over each other left of the screen", 0, 0x83, 2, 0x85);
+    two(b"side by side left of the screen", 0, 0x83, 8, 0x85);
+    two_at_right(b"over each other right of the screen", 249, 249);
+    two_at_right(b"side by side right of the screen", 249, 250);
+    two_at_right(b"over each other at column 255", 248, 248);
 }
 
 // The terminator ends the scan, and its own entry is not drawn.
@@ -186,6 +204,7 @@ pub fn show_all() {
     sides();
     top();
     order();
+    beside();
     terminator();
     fifth();
     show_all_32();

@@ -3,3 +3,4 @@ pub mod Shape
 pub mod Scan
 pub mod Pixels
 pub mod Scanned
+pub mod Rows

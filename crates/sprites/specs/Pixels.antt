@@ -32,6 +32,11 @@ abbrev pub meet : List ℕ → List Sprite → ℕ → Bool
 meet r [] c = false
 meet r (s ∷ l) c = hits r s c && anyHits r l c || meet r l c
 
--- Coincidence: two drawn sprites have a set bit at the same one of the 256 visible columns.
+-- How many columns sprites can reach: from 32 left of the screen, the first with an early clock, to the last of one that is 32
+-- wide and begins at the screen's column 255. On the screen's count these are -32 to 286.
+abbrev pub reach : ℕ
+reach = 319
+
+-- Coincidence: two drawn sprites have a set bit at the same column, on the screen or beside it.
 unfoldable pub coincidence : List ℕ → List Sprite → Bool
-coincidence r sprites = anyBelow 256 (λ x. meet r sprites (visible x))
+coincidence r sprites = anyBelow reach (λ c. meet r sprites c)

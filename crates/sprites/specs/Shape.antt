@@ -5,9 +5,13 @@ use mathlib.Core.List.{List}
 use lib.Dec.{ltb}
 use Rattle.chip.specs.Modes.{largeSprites, magnified}
 
+-- How many columns wide, and how many lines high, a pattern bit is shown.
+abbrev pub bitWidth : List ℕ → ℕ
+bitWidth r = cond (magnified r) 2 1
+
 -- The height and width of a sprite: 8, or 16 with size; doubled by magnify.
 abbrev pub side : List ℕ → ℕ
-side r = cond (largeSprites r) 16 8 * cond (magnified r) 2 1
+side r = cond (largeSprites r) 16 8 * bitWidth r
 
 -- A count of lines or columns in pattern rows or bits: halved when magnified.
 abbrev pub scaled : Bool → ℕ → ℕ

@@ -1,39 +1,30 @@
 // Drawing the sprites that a scan found.
 ghost use mathlib.Core.Path.{_≡_};
-ghost use Prim.Native.Nat.{_≤_};
-ghost use lib.ListN.{length, getD, take, replicate};
+ghost use lib.ListN.{length, getD, take};
 ghost use Rattle.chip.specs.Lists.{tabulate};
 ghost use Rattle.planes.specs.Pixel as pixel;
 ghost use Rattle.sprites.specs.Pixels.{visible, spriteColours, coincidence};
-use crate::paint::add_hits;
+ghost use Rattle.sprites.specs.Scanned.{Held};
+use crate::meet::meets_one;
 use crate::paint::paint_sprite;
 use crate::scan::Scan;
-
-type Columns = [u8; 256];
-
-// No column is hit.
-fn no_hits() -> Columns
-    ensures { λ c. ⌜ c ≡ replicate 256 0 ⌝ }
-{
-    [0; 256]
-}
 
 // Paints the found sprites over a line, the highest number first, so that a lower one comes to lie in front. Answers
 // whether two of them coincide.
 pub fn draw_sprites(line: &mut [u8], r: [u8; 8], scan: Scan) -> bool
-    requires { ⌜ (length (now line) ≡ 256) × (length (scan .sprites) ≡ 4) × (scan .drawn ≤ 4) ⌝ }
+    requires { ⌜ (length (now line) ≡ 256) × Held r scan ⌝ }
     ensures { λ _. ⌜ now (line .exit) ≡ tabulate 256 (λ x. pixel.firstNonZero (spriteColours r (take (scan .drawn) (scan .sprites)) (visible x)) (getD (now (line .entry)) x 0)) ⌝ }
     ensures { λ b. ⌜ b ≡ coincidence r (take (scan .drawn) (scan .sprites)) ⌝ }
 {
     let sprites = scan.sprites;
-    let mut hit = no_hits();
     let mut met = false;
     let mut k = scan.drawn;
     while 0 < k {
+        let next = k;
         k -= 1;
         let s = sprites[k];
         let colour = s.colour;
-        met = add_hits(&mut hit, r, s) | met;
+        met = meets_one(r, s, scan, next) | met;
         paint_sprite(line, r, s, colour);
     }
     met

@@ -2,6 +2,7 @@
 mod columns;
 mod draw;
 mod due;
+mod meet;
 mod paint;
 mod scan;
 mod shape;

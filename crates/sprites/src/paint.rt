@@ -1,10 +1,8 @@
-// Painting a sprite over a line, and the columns that it hits.
+// Painting a sprite over a line.
 ghost use mathlib.Core.Path.{_≡_};
-ghost use mathlib.Core.Bool.{cond, _&&_};
-ghost use lib.Dec.{eqb};
+ghost use mathlib.Core.Bool.{cond};
 ghost use lib.ListN.{length, getD};
 ghost use Rattle.chip.specs.Lists.{tabulate};
-ghost use Rattle.chip.specs.Ranges.{anyBelow};
 ghost use Rattle.planes.specs.Pixel as pixel;
 ghost use Rattle.sprites.specs.Pixels.{visible, hits};
 use crate::columns::bit_at;
@@ -32,24 +30,4 @@ pub fn paint_sprite(line: &mut [u8], r: [u8; 8], s: Sprite, colour: u8)
         line[x] = over(front(bit_at(r, s, c), colour), line[x]);
         c += 1;
     }
-}
-
-// Adds the columns that the sprite hits, those where it has a set bit, to the ones hit before (1 for a hit column, 0 for any
-// other). Answers whether it hits one of these again. There is no early exit, so that many columns can be looked at at once.
-pub fn add_hits(hit: &mut [u8], r: [u8; 8], s: Sprite) -> bool
-    requires { ⌜ length (now hit) ≡ 256 ⌝ }
-    ensures { λ b. ⌜ b ≡ anyBelow 256 (λ x. hits r s (visible x) && eqb (getD (now (hit .entry)) x 0) 1) ⌝ }
-    ensures { λ _. ⌜ now (hit .exit) ≡ tabulate 256 (λ x. pixel.over (cond (hits r s (visible x)) 1 0) (getD (now (hit .entry)) x 0)) ⌝ }
-{
-    let end = end_visible(r, s);
-    let mut met = false;
-    let mut c = first_visible(s);
-    while c < end {
-        let x = c - 32;
-        let set = bit_at(r, s, c);
-        met = set & (hit[x] == 1) | met;
-        hit[x] = over(front(set, 1), hit[x]);
-        c += 1;
-    }
-    met
 }

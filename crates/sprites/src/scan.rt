@@ -30,7 +30,7 @@ pub struct Scan {
 
 pub fn scan_of(r: [u8; 8], vram: &[u8], l: u8) -> Scan
     requires { ⌜ (masked r ≡ true) × (length (now vram) ≡ 16384) ⌝ }
-    ensures { λ s. ⌜ Scanned s (value (scanOf r l) (now (vram .entry))) ⌝ }
+    ensures { λ s. ⌜ Scanned r s (value (scanOf r l) (now (vram .entry))) ⌝ }
 {
     let none = Sprite {
         first: 0,

@@ -62,6 +62,22 @@ unfolding anyBelow
 none-holds zero p h = refl
 none-holds (suc n) p h = ap₂ _||_ (none-holds n p (λ k below. h k (le-step below))) (h n (lt-suc-self n))
 
+not-held : (b : Bool) → (b ≡ true → false ≡ true) → b ≡ false
+not-held true h = sym (h refl)
+not-held false h = refl
+
+pub any-fails : (n : ℕ) (p : ℕ → Bool) → anyBelow n p ≡ false → (k : ℕ) → k < n → p k ≡ false
+any-fails n p none k h = not-held (p k) (λ e. sym none ∙ one-holds n p k h e)
+
+-- a test that is what holds at one of the numbers: it follows wherever that holds, and makes it hold somewhere
+pub any-is : (n : ℕ) (p : ℕ → Bool) (b : Bool) → ((k : ℕ) → k < n → p k ≡ true → b ≡ true) → (b ≡ true → anyBelow n p ≡ true) → anyBelow n p ≡ b
+any-is n p true f g = g refl
+any-is n p false f g = none-holds n p (λ k h. not-held (p k) (f k h))
+
+-- what follows wherever the test holds
+pub any-gives : (n : ℕ) (p : ℕ → Bool) (b : Bool) → ((k : ℕ) → k < n → p k ≡ true → b ≡ true) → anyBelow n p ≡ true → b ≡ true
+any-gives n p b f e = sym (any-is n p b f (λ _. e)) ∙ e
+
 -- two tests that agree below the bound
 pub any-same : (n : ℕ) (p q : ℕ → Bool) → ((k : ℕ) → k < n → p k ≡ q k) → anyBelow n p ≡ anyBelow n q
 unfolding anyBelow

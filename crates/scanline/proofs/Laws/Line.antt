@@ -15,7 +15,7 @@ use Rattle.planes.specs.Cells.{planeOf}
 use Rattle.planes.specs.Plane.{planeColour}
 use Rattle.planes.specs.Pixel.{firstNonZero, pixelOf}
 use Rattle.sprites.specs.Scan.{Found, fifthOf}
-use Rattle.sprites.specs.Pixels.{visible, spriteColours, coincidence}
+use Rattle.sprites.specs.Pixels.{visible, spriteColours, reach, coincidence}
 use Rattle.scanline.specs.Line.{Row, noSprites, spritesOf, lineIn, lineOf, colourAt}
 use Rattle.scanline.specs.Notes.{noteBy, noteOf}
 use Rattle.scanline.specs.Calls.{noteAt, colours}
@@ -69,7 +69,7 @@ module _ (r : List ℕ) (l : ℕ) (vram : List ℕ) where
   module _ (none : value (spritesOf m r l) vram ≡ noSprites) where
     pub plain-note : 32 ≡ noteAt r vram l
     unfolding coincidence
-    plain-note = ap (noteBy 32) (sym (none-holds 256 (λ x. false) (λ k h. refl))) ∙ note-is noSprites none
+    plain-note = ap (noteBy 32) (sym (none-holds reach (λ c. false) (λ k h. refl))) ∙ note-is noSprites none
 
     pub plain-line : {one : List ℕ} → one ≡ planeLine → one ≡ colours r vram l
     plain-line {one} e = sprites-over noSprites none e (tabulated (ap lib.ListN.length e ∙ length-tabulate 256 _) (λ i h. refl))

@@ -4,10 +4,11 @@ use native.Mathlib.Omega.{arith}
 use mathlib.Core.Path.{_≡_}
 use mathlib.Core.Bool.{Bool, true, false, cond}
 use mathlib.Core.List.{List}
-use borrow.Author.Tests.{le-leb, lt-leb, lt-ltb, le-ltb}
+use borrow.Author.Tests.{leb-true, ltb-true, le-leb, lt-leb, lt-ltb, le-ltb}
+use lib.Dec.{leb, ltb}
 use Rattle.chip.specs.Bits.{bit}
 use Rattle.chip.specs.Modes.{largeSprites, magnified}
-use Rattle.chip.proofs.Laws.Ranges.{and-false}
+use Rattle.chip.proofs.Laws.Ranges.{and-false, and-left, and-right}
 use Rattle.sprites.specs.Shape.{side, scaled}
 use Rattle.sprites.specs.Pixels.{hits}
 use Rattle.sprites.specs.declared.sprite.Sprite.{Sprite}
@@ -22,7 +23,8 @@ sides false false = omega arith
 pub side-small : (r : List ℕ) → side r ≤ 32
 side-small r = sides (largeSprites r) (magnified r)
 
-halves : (g : Bool) → cond g 16 8 ≤ 16
+-- a row has at most 16 bits
+pub halves : (g : Bool) → cond g 16 8 ≤ 16
 halves true = omega arith
 halves false = omega arith
 
@@ -34,6 +36,15 @@ module _ (r : List ℕ) (s : Sprite) (c : ℕ) where
   pub hits-right : s .first + side r ≤ c → hits r s c ≡ false
   unfolding hits
   hits-right h = rw (le-ltb _ _ h, and-false)
+
+  -- where it has a set bit
+  pub hit-low : hits r s c ≡ true → s .first ≤ c
+  unfolding hits
+  hit-low e = leb-true _ _ (and-left (leb (s .first) c) _ e)
+
+  pub hit-high : hits r s c ≡ true → c < s .first + side r
+  unfolding hits
+  hit-high e = ltb-true _ _ (and-left (ltb c (s .first + side r)) _ (and-right (leb (s .first) c) _ e))
 
   module _ (low : s .first ≤ c) (high : c < s .first + side r) where
     pub hits-in : hits r s c ≡ bit (15 - scaled (magnified r) (c - s .first)) (s .bits)

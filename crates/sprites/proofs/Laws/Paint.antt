@@ -2,16 +2,12 @@
 use Prim.Native.Nat.{ℕ, _+_, _-_, _≤_, _<_}
 use native.Mathlib.Decide.{decLt}
 use native.Mathlib.Omega.{arith}
-use mathlib.Core.Path.{_≡_, refl, sym, ap, ap₂, _∙_}
-use mathlib.Core.Bool.{Bool, true, false, _||_}
+use mathlib.Core.Path.{_≡_, refl, sym, ap, _∙_}
 use mathlib.Core.List.{List}
 use lib.ListN.{length, getD, set, length-set}
 use lib.Seq.{getD-set-same, getD-set-other}
 use Rattle.chip.specs.Lists.{tabulate}
-use Rattle.chip.specs.Ranges.{anyBelow}
 use Rattle.chip.proofs.Laws.Lists.{tabulated}
-use Rattle.chip.proofs.Laws.Ranges.{one-holds, none-holds}
-use borrow.Author.Tests.{eqb-false}
 use Rattle.sprites.specs.Pixels.{visible}
 
 -- The visible columns before c became f's, and the others are as they were.
@@ -46,37 +42,3 @@ swept-all {new} {old} {f} {c} keeps s = tabulated (s .long) (λ x h. by x h (dec
     by x h (no after) =
         let above : c ≤ visible x = omega arith in
         s .rest x h above ∙ sym (keeps x h above (getD old x 0))
-
--- a test that fails at every visible column before c, and at c
-none-yet : (p : ℕ → ℕ → Bool) (c : ℕ) → 32 ≤ c → ((x : ℕ) → visible x < c → p (visible x) x ≡ false) → p c (c - 32) ≡ false → (x : ℕ) → visible x < c + 1 → p (visible x) x ≡ false
-none-yet p c low before here x below = by (decLt (visible x) c)
-  where
-    by : Dec (visible x < c) → p (visible x) x ≡ false
-    by (yes earlier) = before x earlier
-    by (no now) =
-        let column : visible x ≡ c = omega arith in
-        let place : x ≡ c - 32 = omega arith in
-        ap₂ p column place ∙ here
-
--- Whether p holds at a visible column: met says so of the columns before c.
-pub record Met (met : Bool) (p : ℕ → Bool) (c : ℕ) : Type 0 where
-  pub one : met ≡ true → anyBelow 256 p ≡ true
-  pub none : met ≡ false → (x : ℕ) → visible x < c → p x ≡ false
-
-pub met-none : {p : ℕ → Bool} {c : ℕ} → ((x : ℕ) → visible x < c → p x ≡ false) → Met false p c
-met-none h = record { one = λ e. absurd (eqb-false 0 0 (sym e) refl); none = λ e. h }
-
-pub met-more : {met : Bool} {p : ℕ → Bool} {c : ℕ} (b : Bool) → 32 ≤ c → c < 288 → b ≡ p (c - 32) → Met met p c → Met (b || met) p (c + 1)
-met-more {met} {p} {c} true low high e m = record { one = λ _. one-holds 256 p (c - 32) (omega arith) (sym e); none = λ f. absurd (eqb-false 0 0 f refl) }
-met-more {met} {p} {c} false low high e m = record { one = m .one; none = λ f. none-yet (λ _ x. p x) c low (m .none f) (sym e) }
-
-pub met-all : {met : Bool} {p : ℕ → Bool} {c : ℕ} → ((x : ℕ) → x < 256 → c ≤ visible x → p x ≡ false) → Met met p c → met ≡ anyBelow 256 p
-met-all {met} {p} {c} after m = settled met refl
-  where
-    by : met ≡ false → (x : ℕ) → x < 256 → Dec (visible x < c) → p x ≡ false
-    by e x h (yes before) = m .none e x before
-    by e x h (no beyond) = after x h (omega arith)
-
-    settled : (b : Bool) → met ≡ b → met ≡ anyBelow 256 p
-    settled true e = e ∙ sym (m .one e)
-    settled false e = e ∙ sym (none-holds 256 p (λ x h. by e x h (decLt (visible x) c)))

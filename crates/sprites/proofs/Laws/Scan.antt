@@ -1,5 +1,6 @@
 -- A scan that goes on sprite by sprite.
 use Prim.Native.Nat.{ℕ, suc, _+_, _-_, _≤_, _<_}
+use native.Mathlib.Decide.{ℕ-discrete}
 use native.Mathlib.Numerals.{add-one}
 use native.Mathlib.Omega.{arith}
 use mathlib.Core.Path.{_≡_, refl, sym, ap, _∙_}
@@ -7,13 +8,13 @@ use mathlib.Core.Bool.{true, false}
 use mathlib.Core.List.{List, [], _∷_, _++_, append-nil, append-assoc}
 use borrow.Author.Tests.{eq-eqb, ne-eqb}
 use lib.Dec.{eqb}
-use lib.ListN.{length, getD, take, set, length-set}
-use lib.Seq.{take-suc-set}
+use lib.ListN.{length, getD, take, set, replicate, length-set, length-replicate, getD-replicate}
+use lib.Seq.{take-suc-set, getD-set-same, getD-set-other}
 use Rattle.fetches.specs.Fetch.{answer, value, followed}
 use Rattle.fetches.proofs.Laws.{value-followed}
 use Rattle.sprites.specs.Shape.{covers}
 use Rattle.sprites.specs.Scan.{attributeAddress, spriteOf, Found, found, seen, scanFrom, scanOf}
-use Rattle.sprites.specs.Scanned.{Scanned}
+use Rattle.sprites.specs.Scanned.{noSprite, AsRead, Scanned}
 use Rattle.sprites.specs.declared.scan.Ended.{Ended}
 use Rattle.sprites.specs.declared.scan.Ended.the-variants.{Terminator, Fifth, All}
 use Rattle.sprites.specs.declared.sprite.Sprite.{Sprite}
@@ -72,23 +73,39 @@ pub record Going (r : List ℕ) (l : ℕ) (vram : List ℕ) (sprites : List Spri
   pub few : drawn ≤ 4
   pub up : n ≤ 32
   pub room : length sprites ≡ 4
+  pub as-read : (k : ℕ) → k < 4 → AsRead r (getD sprites k noSprite)
   pub all : value (scanOf r l) vram ≡ after (take drawn sprites) (rest r l vram n drawn)
 
-pub going-start : {r : List ℕ} {l : ℕ} {vram : List ℕ} {sprites : List Sprite} → length sprites ≡ 4 → Going r l vram sprites 0 0
-going-start e = record { few = omega arith; up = omega arith; room = e; all = refl }
+pub going-start : {r : List ℕ} {l : ℕ} {vram : List ℕ} {sprites : List Sprite} → sprites ≡ replicate 4 noSprite → Going r l vram sprites 0 0
+going-start e =
+    record {
+      few = omega arith;
+      up = omega arith;
+      room = ap length e ∙ length-replicate {A = Sprite} 4 noSprite;
+      as-read = λ k h. rw (e, getD-replicate 4 k noSprite noSprite h) (record { near = omega arith; left-half = λ _. refl });
+      all = refl;
+    }
+
+as-read-set : (r : List ℕ) (sprites : List Sprite) (i : ℕ) (s : Sprite) → i < length sprites → AsRead r s → ((k : ℕ) → k < 4 → AsRead r (getD sprites k noSprite)) → (k : ℕ) → k < 4 → AsRead r (getD (set sprites i s) k noSprite)
+as-read-set r sprites i s room new old k h = by (ℕ-discrete k i)
+  where
+    by : Dec (k ≡ i) → AsRead r (getD (set sprites i s) k noSprite)
+    by (yes same) = rw (same, getD-set-same sprites i s noSprite room) new
+    by (no other) = rw (getD-set-other sprites i k s noSprite other) (old k h)
 
 module _ {r : List ℕ} {l : ℕ} {vram : List ℕ} {sprites : List Sprite} {drawn n : ℕ} (g : Going r l vram sprites drawn n) where
   -- sprite n does not cover the line
   pub going-on : n < 32 → rest r l vram n drawn ≡ rest r l vram (n + 1) drawn → Going r l vram sprites drawn (n + 1)
-  going-on h e = record { few = g .few; up = omega arith; room = g .room; all = g .all ∙ ap (after (take drawn sprites)) e }
+  going-on h e = record { few = g .few; up = omega arith; room = g .room; as-read = g .as-read; all = g .all ∙ ap (after (take drawn sprites)) e }
 
   -- it does, and is drawn
-  pub going-draw : (s : Sprite) → n < 32 → drawn < 4 → rest r l vram n drawn ≡ found s (rest r l vram (n + 1) (drawn + 1)) → Going r l vram (set sprites drawn s) (drawn + 1) (n + 1)
-  going-draw s h few e =
+  pub going-draw : (s : Sprite) → AsRead r s → n < 32 → drawn < 4 → rest r l vram n drawn ≡ found s (rest r l vram (n + 1) (drawn + 1)) → Going r l vram (set sprites drawn s) (drawn + 1) (n + 1)
+  going-draw s read h few e =
       record {
         few = omega arith;
         up = omega arith;
         room = length-set sprites drawn s ∙ g .room;
+        as-read = as-read-set r sprites drawn s (rw (g .room) few) read (g .as-read);
         all =
             g .all
             ∙ ap (after (take drawn sprites)) e
@@ -97,12 +114,11 @@ module _ {r : List ℕ} {l : ℕ} {vram : List ℕ} {sprites : List Sprite} {dra
       }
 
   -- the scan ends
-  pub going-end : (e : Ended) → rest r l vram n drawn ≡ record { sprites = []; ended = e } → Scanned (record { sprites = sprites; drawn = drawn; ended = e }) (value (scanOf r l) vram)
+  pub going-end : (e : Ended) → rest r l vram n drawn ≡ record { sprites = []; ended = e } → Scanned r (record { sprites = sprites; drawn = drawn; ended = e }) (value (scanOf r l) vram)
   going-end e stop =
       let whole = g .all ∙ ap (after (take drawn sprites)) stop in
       record {
-        room = g .room;
-        few = g .few;
+        held = record { room = g .room; few = g .few; as-read = g .as-read };
         sprites = sym (ap (λ (f : Found). f .sprites) whole ∙ append-nil (take drawn sprites));
         ended = sym (ap (λ (f : Found). f .ended) whole);
       }

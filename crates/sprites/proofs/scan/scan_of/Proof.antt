@@ -10,6 +10,7 @@ use Rattle.chip.proofs.Laws.State.{taken-not, left-not}
 use Rattle.sprites.specs.Scan.{attributeAddress}
 use Rattle.sprites.specs.Shape as shape
 use Rattle.sprites.proofs.Laws.Bounds.{attribute-inside}
+use Rattle.sprites.proofs.Laws.Read.{as-read}
 use Rattle.sprites.proofs.Laws.Scan.{Going, going-start, going-on, going-draw, going-end, at-end, at-terminator, not-covering, at-fifth, drawn}
 use Rattle.sprites.proofs.scan.scan_of.Statement.{statement}
 use Rattle.sprites.proofs.scan.scan_of.Tie as tie
@@ -110,7 +111,9 @@ loop-again-2 c =
     let e = c .before .before .before in
     let d = drawn (St e .args .r) (St e .args .l) (St e .args .vram .now) (At e .loop .n) (At e .loop .drawn) (left (E1 e)) (more e) (does (c .before .before)) (c .before .if4 .left) in
     let s = rw (e .before .before .before .before .attribute-address .ensures) at (c .sprite-of .ensures) in
-    going-draw (At e .loop .inv) (c .sprite-of .result) (left (E1 e)) (few (c .before)) (rw s d)
+    let x = attributeAddress (St e .args .r) (At e .loop .n) 1 in
+    let read = as-read (St e .args .r) (St e .args .l) (At e .loop .n) (Y e) (St e .args .vram .now) (omega (arith, e .before .before .before .shared-slice-known2 .given x)) in
+    going-draw (At e .loop .inv) (c .sprite-of .result) (rw s read) (left (E1 e)) (few (c .before)) (rw s d)
 
 returns : tie.Need-returns Inv-loop μ-loop
 returns c = going-end (c .before .loop .inv) _ (at-end _ _ _ _ _ (c .if1 .taken))
