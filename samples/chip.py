@@ -108,8 +108,8 @@ class Chip:
             at = 2048 * r[6] + 8 * (name & 0xFC if large else name) + offset // scale
             bits = "{:08b}".format(self.vram[at]) + ("{:08b}".format(self.vram[at + 16]) if large else "")
             left = x - (32 if colour & 0x80 else 0)
-            columns = {left + column for column in range(scale * len(bits)) if bits[column // scale] == "1"}
-            drawn.append(columns & set(range(256)))
+            # all columns, those off the screen too
+            drawn.append({left + column for column in range(scale * len(bits)) if bits[column // scale] == "1"})
         if sum(map(len, drawn)) > len(set().union(*drawn)):
             self.status |= 0x20
 

@@ -3,6 +3,9 @@
 use crate::library::{Calls, LIBRARY, REFERENCE};
 use crate::logs::{Host, Log};
 use crate::{replay, show};
+use reference::block::read_block;
+use reference::line::sprites_meet;
+use std::ops::RangeInclusive;
 
 /// What can be lent. Logs and record bytes are each call's own and have no length of their own.
 #[derive(Clone, Copy, Debug, PartialEq, Eq)]
@@ -351,6 +354,8 @@ pub struct Reached {
     /// Draws that turned 5S or C on.
     pub fifth: u64,
     pub coincidence: u64,
+    /// Draws that turned C on where sprites meet on hidden columns alone, as in HIDDEN.
+    pub hidden: [u64; HIDDEN.len()],
     /// Refreshes by what they redrew: nothing, some lines, all.
     pub refreshes: [u64; 3],
     /// Refreshes held against a full draw.
@@ -367,6 +372,9 @@ pub struct Reached {
     pub replayed: [u64; 2],
     pub shown: u64,
 }
+
+/// Lines by the side of the screen on which sprites meet, and draws of whole pictures.
+pub const HIDDEN: [&str; 4] = ["lines left of 0", "lines right of 255", "full draws", "refreshes"];
 
 /// The numbers of records at the ends, and one too many.
 pub const LENGTHS: [usize; 5] = [0, 1, 19_999, 20_000, 20_001];
@@ -394,6 +402,7 @@ pub fn run(case: &Case, reached: &mut Reached) -> Result<(), Difference> {
         let mut found = compare(answer, expected, &library, &second);
         let refreshed = step.call == Call::Refresh && answer < 256;
         follows |= step.call == Call::FullDraw && answer < 256 || refreshed && before[14] == 1;
+        count_hidden(step, expected, before[13], follows, &mut second, reached);
         if found.is_none() && follows && refreshed {
             found = full_draw_differs(before.clone(), &mut library, reached);
         }
@@ -596,4 +605,47 @@ fn count(step: &Step, answer: u32, before: u8, after: u8, reached: &mut Reached)
             _ => 1,
         }] += 1;
     }
+}
+
+/// Counts a draw that turned C on, by the reference, where no sprites meet on a visible column. A refresh counts only
+/// where all the notes are of VRAM as it is.
+fn count_hidden(step: &Step, answer: u32, before: u8, follows: bool, second: &mut Side, reached: &mut Reached) {
+    let lines = match step.call {
+        Call::DrawLine(line) => vec![line as u8],
+        Call::FullDraw => noted(second.slice(Slice::Notes)),
+        Call::Refresh if follows => noted(second.slice(Slice::Notes)),
+        _ => return,
+    };
+    let block = second.slice(Slice::Block).to_vec();
+    let Some(state) = read_block(&block) else {
+        return;
+    };
+    if answer >= 256 || state.status & !before & 0x20 == 0 {
+        return;
+    }
+    let vram = second.slice(Slice::Vram);
+    let meet = |columns: RangeInclusive<i32>| {
+        let mut lines = lines.iter();
+        lines.any(|&line| sprites_meet(&state, vram, line, columns.clone()))
+    };
+    if meet(0..=255) {
+        return;
+    }
+    match step.call {
+        Call::DrawLine(_) => {
+            reached.hidden[0] += u64::from(meet(-32..=-1));
+            reached.hidden[1] += u64::from(meet(256..=286));
+        }
+        Call::FullDraw => reached.hidden[2] += 1,
+        _ => reached.hidden[3] += 1,
+    }
+}
+
+/// The lines whose notes tell of coincidence.
+fn noted(notes: &[u8]) -> Vec<u8> {
+    let lines = (0..192).zip(notes);
+    lines
+        .filter(|(_, &note)| note & 64 != 0)
+        .map(|(line, _)| line)
+        .collect()
 }

@@ -4,6 +4,7 @@ pub mod calls;
 pub mod library;
 pub mod lists;
 pub mod logs;
+pub mod meetings;
 pub mod random;
 pub mod replay;
 pub mod scenes;

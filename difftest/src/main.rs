@@ -1,13 +1,14 @@
 //! difftest [--seed N] [--first N] [--cases N] [--faults | --gate]
 //!
 //! Compares N states, from the first on, and a tenth as many lists of calls and as many cases of logs;
-//! without --cases a fixed number, and no more than two minutes. --faults plants each of the
-//! reference's faults in turn and wants it found; --gate does both.
+//! without --cases a fixed number, and no more than two minutes. Before them come meetings of sprites, the
+//! same in every run. --faults plants each of the reference's faults in turn and wants it found; --gate
+//! does both.
 
-use difftest::calls::{run, Case, Reached, LENGTHS, NAMES};
+use difftest::calls::{run, Case, Reached, HIDDEN, LENGTHS, NAMES};
 use difftest::lists::{list_case, log_case, place, state_case};
 use difftest::scenes::{KINDS, MODES};
-use difftest::shrink;
+use difftest::{meetings, shrink};
 use reference::faults;
 use std::time::{Duration, Instant};
 
@@ -73,9 +74,10 @@ fn options() -> Result<Options, String> {
     Ok(options)
 }
 
-/// A state, a list or a case of logs by its number.
+/// A state, a list, a case of logs or a meeting of sprites by its number.
 #[derive(Clone, Copy)]
 enum Numbered {
+    Meeting(u64),
     State(u64),
     Logs(u64),
     List(u64),
@@ -84,15 +86,17 @@ enum Numbered {
 impl Numbered {
     fn case(self, seed: u64) -> Case {
         match self {
+            Numbered::Meeting(number) => meetings::case(number),
             Numbered::State(number) => state_case(seed, number),
             Numbered::Logs(number) => log_case(seed, number),
             Numbered::List(number) => list_case(seed, number),
         }
     }
 
-    /// The words that run it again; logs and a list come after their ten states.
+    /// The words that run it again; logs and a list come after their ten states, and all meetings come first.
     fn alone(self, seed: u64) -> String {
         let first = match self {
+            Numbered::Meeting(_) => return "--cases 0".to_string(),
             Numbered::State(number) => number,
             Numbered::Logs(number) | Numbered::List(number) => 10 * number + 9,
         };
@@ -103,6 +107,7 @@ impl Numbered {
 impl std::fmt::Display for Numbered {
     fn fmt(&self, f: &mut std::fmt::Formatter<'_>) -> std::fmt::Result {
         match *self {
+            Numbered::Meeting(number) => write!(f, "meeting {number} ({})", meetings::name(number)),
             Numbered::State(number) => {
                 let (mode, kind) = place(number);
                 write!(f, "state {number} ({}, {})", MODES[mode], KINDS[kind])
@@ -113,8 +118,13 @@ impl std::fmt::Display for Numbered {
     }
 }
 
-/// What is to be compared, in order: logs and a list after every ten states.
-fn in_order(options: &Options) -> impl Iterator<Item = Numbered> {
+/// The cases that every run has.
+fn fixed() -> impl Iterator<Item = Numbered> {
+    (0..meetings::count()).map(Numbered::Meeting)
+}
+
+/// The random ones, in order: logs and a list after every ten states.
+fn random(options: &Options) -> impl Iterator<Item = Numbered> {
     (options.first..options.first + options.cases).flat_map(|number| {
         let after_ten = [Numbered::Logs(number / 10), Numbered::List(number / 10)];
         let after = after_ten.into_iter().filter(move |_| number % 10 == 9);
@@ -125,6 +135,9 @@ fn in_order(options: &Options) -> impl Iterator<Item = Numbered> {
 /// How many were compared.
 #[derive(Default)]
 struct Compared {
+    meetings: u64,
+    /// What the meetings have reached of HIDDEN.
+    hidden: [u64; HIDDEN.len()],
     states: [u64; MODES.len()],
     logs: u64,
     lists: u64,
@@ -133,6 +146,7 @@ struct Compared {
 impl Compared {
     fn count(&mut self, numbered: Numbered) {
         match numbered {
+            Numbered::Meeting(_) => self.meetings += 1,
             Numbered::State(number) => self.states[place(number).0] += 1,
             Numbered::Logs(_) => self.logs += 1,
             Numbered::List(_) => self.lists += 1,
@@ -144,7 +158,7 @@ fn compare(options: &Options, passed: &mut u64, failed: &mut u64) {
     let (mut compared, mut reached) = (Compared::default(), Reached::default());
     let start = Instant::now();
     let mut whole = true;
-    for numbered in in_order(options) {
+    for numbered in fixed().chain(random(options)) {
         if options.limit.map_or(false, |limit| start.elapsed() > limit) {
             println!("stopped at {numbered}: {} seconds are over", LIMIT.as_secs());
             whole = false;
@@ -163,14 +177,19 @@ fn compare(options: &Options, passed: &mut u64, failed: &mut u64) {
                 }
             }
         }
+        if let Numbered::Meeting(_) = numbered {
+            compared.hidden = reached.hidden;
+        }
     }
     summary(options, &compared, &reached);
+    let mut never = missed_by_meetings(&compared);
     // A short run need not reach everything.
     if whole && options.cases >= CASES {
-        for what in missed(&reached) {
-            println!("FAILED: never reached: {what}");
-            *failed += 1;
-        }
+        never.extend(missed(&compared, &reached));
+    }
+    for what in never {
+        println!("FAILED: never reached: {what}");
+        *failed += 1;
     }
 }
 
@@ -214,7 +233,10 @@ fn hex(bytes: &[u8]) -> String {
 
 fn summary(options: &Options, compared: &Compared, reached: &Reached) {
     let states: u64 = compared.states.iter().sum();
-    println!("seed {}, {states} states, {} lists, {} cases of logs", options.seed, compared.lists, compared.logs);
+    println!(
+        "seed {}, {} meetings of sprites, {states} states, {} lists, {} cases of logs",
+        options.seed, compared.meetings, compared.lists, compared.logs
+    );
     let modes: Vec<String> = MODES
         .iter()
         .zip(compared.states)
@@ -229,6 +251,15 @@ fn summary(options: &Options, compared: &Compared, reached: &Reached) {
         }
     }
     println!("draws that turned 5S on: {}, C on: {}", reached.fifth, reached.coincidence);
+    let random = at_random(compared, reached);
+    for (name, counts) in [("meetings", compared.hidden), ("random cases", random)] {
+        let counts: Vec<String> = HIDDEN
+            .iter()
+            .zip(counts)
+            .map(|(what, count)| format!("{what} {count}"))
+            .collect();
+        println!("C on by hidden columns alone, in {name}: {}", counts.join(", "));
+    }
     let [nothing, some, all] = reached.refreshes;
     println!(
         "refreshes of no line: {nothing}, of some: {some}, of all: {all}; against a full draw: {}",
@@ -271,8 +302,23 @@ const REFUSALS: [&[usize]; NAMES.len()] = [
     &[0, 8, 9],
 ];
 
-fn missed(reached: &Reached) -> Vec<String> {
+/// What the cases besides the meetings have reached of HIDDEN.
+fn at_random(compared: &Compared, reached: &Reached) -> [u64; HIDDEN.len()] {
+    std::array::from_fn(|place| reached.hidden[place] - compared.hidden[place])
+}
+
+/// The meetings are in every run and have to reach all of it.
+fn missed_by_meetings(compared: &Compared) -> Vec<String> {
+    let counts = HIDDEN.iter().zip(compared.hidden);
+    counts
+        .filter(|&(_, count)| count == 0)
+        .map(|(what, _)| format!("C on by hidden columns alone in meetings: {what}"))
+        .collect()
+}
+
+fn missed(compared: &Compared, reached: &Reached) -> Vec<String> {
     let mut missed = Vec::new();
+    let [left, right, ..] = at_random(compared, reached);
     for (place, numbers) in REFUSALS.into_iter().enumerate() {
         for &number in numbers.iter().filter(|&&number| reached.answers[place][number] == 0) {
             missed.push(format!("vdp_{} answering {number}", NAMES[place]));
@@ -281,6 +327,8 @@ fn missed(reached: &Reached) -> Vec<String> {
     let some = [
         (reached.fifth, "5S turned on"),
         (reached.coincidence, "C turned on"),
+        (left, "C turned on left of column 0 alone, at random"),
+        (right, "C turned on right of column 255 alone, at random"),
         (reached.refreshes[0], "a refresh of no line"),
         (reached.refreshes[1], "a refresh of some lines"),
         (reached.refreshes[2], "a refresh of all lines"),
@@ -309,23 +357,42 @@ fn missed(reached: &Reached) -> Vec<String> {
 /// Every fault of the reference has to be found.
 fn plant_all(options: &Options, passed: &mut u64, failed: &mut u64) {
     for number in 1..=faults::LAST {
-        let name = faults::NAMES[number as usize - 1];
-        faults::plant(number);
-        let start = Instant::now();
-        let found = in_order(options)
-            .take_while(|_| options.limit.map_or(true, |limit| start.elapsed() < limit))
-            .find(|numbered| run(&numbered.case(options.seed), &mut Reached::default()).is_err());
-        match found {
-            Some(numbered) => {
-                *passed += 1;
-                println!("fault {number}, {name}: found by {numbered}, {}", numbered.alone(options.seed));
-                print(&shrink::shrink(&numbered.case(options.seed)));
-            }
-            None => {
-                *failed += 1;
-                println!("FAILED: fault {number}, {name}: NOT FOUND in {} states, their logs and lists", options.cases);
-            }
+        // Sprites that meet at the outermost columns alone hardly ever come up at random.
+        if number < faults::FIRST_COLUMN_FORGOTTEN {
+            let among = format!("{} states, their logs and lists", options.cases);
+            plant(number, random(options), &among, options, passed, failed);
         }
-        faults::plant(0);
+        if number >= faults::ONLY_VISIBLE_COINCIDE {
+            plant(number, fixed(), "the meetings", options, passed, failed);
+        }
     }
+}
+
+fn plant(
+    number: u32,
+    cases: impl Iterator<Item = Numbered>,
+    among: &str,
+    options: &Options,
+    passed: &mut u64,
+    failed: &mut u64,
+) {
+    let name = faults::NAMES[number as usize - 1];
+    faults::plant(number);
+    let start = Instant::now();
+    let within = |limit| start.elapsed() < limit;
+    let found = cases
+        .take_while(|_| options.limit.map_or(true, within))
+        .find(|numbered| run(&numbered.case(options.seed), &mut Reached::default()).is_err());
+    match found {
+        Some(numbered) => {
+            *passed += 1;
+            println!("fault {number}, {name}: found by {numbered}, {}", numbered.alone(options.seed));
+            print(&shrink::shrink(&numbered.case(options.seed)));
+        }
+        None => {
+            *failed += 1;
+            println!("FAILED: fault {number}, {name}: NOT FOUND in {among}");
+        }
+    }
+    faults::plant(0);
 }

@@ -72,8 +72,22 @@ pub const RUN_BEFORE_TESTED: u32 = 33;
 /// The numbers of a log's trailer are read high byte first.
 pub const TRAILER_HIGH_FIRST: u32 = 34;
 
+/// Sprites coincide on the 256 visible columns only.
+pub const ONLY_VISIBLE_COINCIDE: u32 = 35;
+/// Sprites do not coincide left of column 0.
+pub const NO_COINCIDENCE_ON_THE_LEFT: u32 = 36;
+/// Sprites do not coincide right of column 255.
+pub const NO_COINCIDENCE_ON_THE_RIGHT: u32 = 37;
+/// The fourth drawn sprite does not take part in coincidence.
+pub const FOURTH_DOES_NOT_COINCIDE: u32 = 38;
+/// Sprites do not coincide at column -32.
+pub const FIRST_COLUMN_FORGOTTEN: u32 = 39;
+/// Sprites do not coincide at columns 285 and 286. Only magnified ones get
+/// there, so those that meet at 286 meet at 285 too.
+pub const LAST_COLUMNS_FORGOTTEN: u32 = 40;
+
 /// The highest fault number.
-pub const LAST: u32 = 34;
+pub const LAST: u32 = 40;
 
 /// A few words for each fault, from 1 up.
 pub const NAMES: [&str; LAST as usize] = [
@@ -111,6 +125,12 @@ pub const NAMES: [&str; LAST as usize] = [
     "records are tested before the log's form",
     "records are run before all are tested",
     "a log's trailer is read high byte first",
+    "sprites coincide on visible columns only",
+    "sprites do not coincide left of column 0",
+    "sprites do not coincide right of column 255",
+    "the fourth drawn sprite does not coincide",
+    "sprites do not coincide at column -32",
+    "sprites do not coincide at columns 285 and 286",
 ];
 
 thread_local! {

@@ -1,6 +1,7 @@
 //! One line: its 256 colours, its note and the VRAM bytes it fetches.
 
 use std::collections::BTreeSet;
+use std::ops::RangeInclusive;
 
 use crate::faults::{self, planted};
 use crate::sprites::{self, Scan};
@@ -155,6 +156,13 @@ pub fn picture(state: &State, vram: &[u8], line: u8) -> ([u8; LINE_BYTES], u8) {
     }
     let coincidence = sprites::coincidence(state, vram, &scan.drawn);
     (colours, note(scan.fifth, coincidence))
+}
+
+/// Whether two sprites drawn on the line both have a 1 at one of these columns,
+/// below 0 and above 255 too.
+pub fn sprites_meet(state: &State, vram: &[u8], line: u8, columns: RangeInclusive<i32>) -> bool {
+    let scan = scan(state, vram, line);
+    sprites::meet(state, vram, &scan.drawn, columns)
 }
 
 /// The fifth sprite's number or 32, and 64 more for coincidence.

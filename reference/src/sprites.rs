@@ -1,10 +1,17 @@
 //! The sprites of one line: the scan, their bits and coincidence.
 
+use std::ops::RangeInclusive;
+
 use crate::faults::{self, planted};
 use crate::state::{byte_at, State};
 
 /// The Y that ends the list.
 const TERMINATOR: u8 = 208;
+
+/// The leftmost column that a sprite can reach: X 0 with the early clock.
+const FIRST_COLUMN: i32 = -32;
+/// The rightmost: X 255 and 32 columns wide.
+const LAST_COLUMN: i32 = 286;
 
 /// A sprite that is drawn on the line.
 #[derive(Clone, Copy, Debug)]
@@ -179,16 +186,60 @@ pub fn colour_at(state: &State, vram: &[u8], drawn: &[Sprite], x: i32) -> u8 {
     0
 }
 
-/// Whether two drawn sprites both have a 1 at some visible column.
+/// Whether two drawn sprites both have a 1 at some column that a sprite can
+/// reach. The edges of the screen do not matter.
 pub fn coincidence(state: &State, vram: &[u8], drawn: &[Sprite]) -> bool {
-    (0..256).any(|x| {
-        let here = drawn
+    meet(state, vram, drawn, columns_of_coincidence())
+}
+
+/// All columns, but for the planted mistakes.
+fn columns_of_coincidence() -> RangeInclusive<i32> {
+    if planted(faults::ONLY_VISIBLE_COINCIDE) {
+        0..=255
+    } else if planted(faults::NO_COINCIDENCE_ON_THE_LEFT) {
+        0..=LAST_COLUMN
+    } else if planted(faults::NO_COINCIDENCE_ON_THE_RIGHT) {
+        FIRST_COLUMN..=255
+    } else if planted(faults::FIRST_COLUMN_FORGOTTEN) {
+        FIRST_COLUMN + 1..=LAST_COLUMN
+    } else if planted(faults::LAST_COLUMNS_FORGOTTEN) {
+        FIRST_COLUMN..=LAST_COLUMN - 2
+    } else {
+        FIRST_COLUMN..=LAST_COLUMN
+    }
+}
+
+/// Whether two drawn sprites both have a 1 at one of these columns.
+pub fn meet(
+    state: &State,
+    vram: &[u8],
+    drawn: &[Sprite],
+    mut columns: RangeInclusive<i32>,
+) -> bool {
+    let taking_part: Vec<&Sprite> = drawn
+        .iter()
+        .enumerate()
+        .filter(|(place, sprite)| takes_part(*place, sprite))
+        .map(|(_, sprite)| sprite)
+        .collect();
+    columns.any(|x| {
+        let here = taking_part
             .iter()
-            .filter(|sprite| !planted(faults::ONLY_COLOURED_COINCIDE) || sprite.colour != 0)
             .filter(|sprite| has_bit(state, vram, sprite, x))
             .count();
         here >= 2
     })
+}
+
+/// Every drawn sprite takes part, but for two of the planted mistakes.
+fn takes_part(place: usize, sprite: &Sprite) -> bool {
+    if planted(faults::ONLY_COLOURED_COINCIDE) {
+        sprite.colour != 0
+    } else if planted(faults::FOURTH_DOES_NOT_COINCIDE) {
+        place != 3
+    } else {
+        true
+    }
 }
 
 /// The bytes fetched for the sprites: each Y looked at, and the other
@@ -254,5 +305,12 @@ mod tests {
         assert_eq!(first_column(1, 0x80), -31);
         assert_eq!(first_column(0, 0x80), -32);
         assert_eq!(first_column(255, 0x7F), 255);
+    }
+
+    #[test]
+    fn no_sprite_reaches_further() {
+        assert_eq!(first_column(0, 0x80), FIRST_COLUMN);
+        let widest = extent(&with_register_1(3));
+        assert_eq!(first_column(255, 0) + widest - 1, LAST_COLUMN);
     }
 }

@@ -2,7 +2,7 @@
 
 mod common;
 
-use common::{sprite_board, Lent};
+use common::{shapes_board, sprite_board, Lent, EARLY, FULL, LEFTMOST, RIGHTMOST};
 use reference::block::*;
 use reference::show;
 
@@ -301,25 +301,246 @@ fn the_fifth_is_looked_at_but_not_fetched_further() {
     assert_eq!(attributes, expected);
 }
 
+/// Whether sprites coincide on line 50: by status after the line, and by note
+/// and status after a full draw and after a refresh, which have to agree.
+fn coincide(register_1: u8, sprites: &[[u8; 4]]) -> bool {
+    let mut lent = shapes_board(register_1, sprites);
+    assert_eq!(lent.draw(50), 0);
+    let found = lent.status() & 0x20 != 0;
+    for redraw in [false, true] {
+        lent.block[13] = 0;
+        lent.block[14] = u8::from(redraw);
+        lent.notes.fill(32);
+        let answer = if redraw {
+            lent.refresh()
+        } else {
+            lent.full_draw()
+        };
+        assert_eq!(answer, if redraw { 192 } else { 0 });
+        assert_eq!(lent.notes[50] & 64 != 0, found);
+        assert_eq!(lent.status() & 0x20 != 0, found);
+    }
+    assert_eq!(lent.line, lent.frame[256 * 50..256 * 51]);
+    found
+}
+
 #[test]
 fn coincidence_of_uncoloured_and_off_screen_sprites() {
-    for (x, early, status) in [
-        (100, 0, 0x20),
-        (24, 0x80, 0x00),
-        (25, 0x80, 0x20),
-        (255, 0, 0x20),
+    for (x, early) in [
+        (100, 0),
+        (0, EARLY),
+        (24, EARLY),
+        (25, EARLY),
+        (31, EARLY),
+        (248, 0),
+        (249, 0),
+        (255, 0),
     ] {
-        let mut lent = sprite_board(0x00);
-        lent.vram[0x0800..0x0808].fill(0xFF);
-        lent.sprite(0, [49, x, 0, early]);
-        lent.sprite(1, [49, x, 0, early]);
-        lent.sprite(2, [208, 0, 0, 0]);
+        let mut lent = shapes_board(0x00, &[[49, x, FULL, early]; 2]);
         lent.draw(50);
-        assert_eq!(lent.status(), status, "x {x}");
+        assert_eq!(lent.status(), 0x20, "x {x}");
         assert_eq!(lent.line, vec![1; 256]);
         lent.full_draw();
-        assert_eq!(lent.notes[50], if status == 0 { 32 } else { 96 });
+        assert_eq!(lent.notes[50], 96);
+        assert_eq!(lent.notes[49], 32);
     }
+}
+
+/// X, shape and early clock of a sprite.
+type Place = (u8, u8, u8);
+
+/// Two sprites, for each size and magnification, and the column that both have
+/// a bit at; none where they only touch. Two magnified ones at the first or last
+/// column that they can reach share its neighbour too.
+const PAIRS: [(u8, Place, Place, Option<i32>); 42] = [
+    (0, (0, LEFTMOST, EARLY), (0, LEFTMOST, EARLY), Some(-32)),
+    (0, (0, LEFTMOST, EARLY), (1, LEFTMOST, EARLY), None),
+    (0, (16, RIGHTMOST, EARLY), (23, LEFTMOST, EARLY), Some(-9)),
+    (0, (24, RIGHTMOST, EARLY), (31, LEFTMOST, EARLY), Some(-1)),
+    (0, (24, RIGHTMOST, EARLY), (0, LEFTMOST, 0), None),
+    (0, (25, RIGHTMOST, EARLY), (0, LEFTMOST, 0), Some(0)),
+    (0, (32, LEFTMOST, EARLY), (0, LEFTMOST, 0), Some(0)),
+    (0, (248, RIGHTMOST, 0), (255, LEFTMOST, 0), Some(255)),
+    (0, (248, RIGHTMOST, 0), (249, RIGHTMOST, 0), None),
+    (0, (249, RIGHTMOST, 0), (249, RIGHTMOST, 0), Some(256)),
+    (0, (254, RIGHTMOST, 0), (255, RIGHTMOST, 0), None),
+    (0, (255, RIGHTMOST, 0), (255, RIGHTMOST, 0), Some(262)),
+    (1, (0, LEFTMOST, EARLY), (0, LEFTMOST, EARLY), Some(-32)),
+    (1, (0, LEFTMOST, EARLY), (1, LEFTMOST, EARLY), Some(-31)),
+    (1, (0, LEFTMOST, EARLY), (2, LEFTMOST, EARLY), None),
+    (1, (16, RIGHTMOST, EARLY), (31, LEFTMOST, EARLY), Some(-1)),
+    (1, (16, RIGHTMOST, EARLY), (0, LEFTMOST, 0), None),
+    (1, (31, LEFTMOST, EARLY), (0, LEFTMOST, 0), Some(0)),
+    (1, (240, RIGHTMOST, 0), (255, LEFTMOST, 0), Some(255)),
+    (1, (240, RIGHTMOST, 0), (242, RIGHTMOST, 0), None),
+    (1, (241, RIGHTMOST, 0), (242, RIGHTMOST, 0), Some(256)),
+    (1, (253, RIGHTMOST, 0), (255, RIGHTMOST, 0), None),
+    (1, (255, RIGHTMOST, 0), (255, RIGHTMOST, 0), Some(270)),
+    (2, (0, LEFTMOST, EARLY), (0, LEFTMOST, EARLY), Some(-32)),
+    (2, (0, RIGHTMOST, EARLY), (15, LEFTMOST, EARLY), Some(-17)),
+    (2, (16, RIGHTMOST, EARLY), (31, LEFTMOST, EARLY), Some(-1)),
+    (2, (16, RIGHTMOST, EARLY), (0, LEFTMOST, 0), None),
+    (2, (17, RIGHTMOST, EARLY), (0, LEFTMOST, 0), Some(0)),
+    (2, (240, RIGHTMOST, 0), (255, LEFTMOST, 0), Some(255)),
+    (2, (240, RIGHTMOST, 0), (241, RIGHTMOST, 0), None),
+    (2, (241, RIGHTMOST, 0), (241, RIGHTMOST, 0), Some(256)),
+    (2, (255, RIGHTMOST, 0), (255, RIGHTMOST, 0), Some(270)),
+    (3, (0, LEFTMOST, EARLY), (0, LEFTMOST, EARLY), Some(-32)),
+    (3, (0, RIGHTMOST, EARLY), (31, LEFTMOST, EARLY), Some(-1)),
+    (3, (0, RIGHTMOST, EARLY), (0, LEFTMOST, 0), None),
+    (3, (1, RIGHTMOST, EARLY), (0, LEFTMOST, 0), Some(0)),
+    (3, (224, RIGHTMOST, 0), (255, LEFTMOST, 0), Some(255)),
+    (3, (224, RIGHTMOST, 0), (226, RIGHTMOST, 0), None),
+    (3, (225, RIGHTMOST, 0), (226, RIGHTMOST, 0), Some(256)),
+    (3, (253, RIGHTMOST, 0), (255, RIGHTMOST, 0), None),
+    (3, (254, RIGHTMOST, 0), (255, RIGHTMOST, 0), Some(285)),
+    (3, (255, RIGHTMOST, 0), (255, RIGHTMOST, 0), Some(286)),
+];
+
+#[test]
+fn coincidence_at_one_column() {
+    for (register_1, first, second, column) in PAIRS {
+        for colours in [[0, 0], [0, 7], [7, 0], [7, 9]] {
+            let [one, two] = [(first, colours[0]), (second, colours[1])]
+                .map(|((x, shape, early), colour)| [49, x, shape, early | colour]);
+            for sprites in [[one, two], [two, one]] {
+                let found = coincide(register_1, &sprites);
+                assert_eq!(found, column.is_some(), "{register_1} {sprites:?}");
+            }
+        }
+    }
+}
+
+/// The column in the table is the one at which both have a bit.
+#[test]
+fn the_columns_of_the_pairs() {
+    for (register_1, first, second, column) in PAIRS {
+        let sprites = [first, second].map(|(x, shape, early)| [49, x, shape, early]);
+        let lent = shapes_board(register_1, &sprites);
+        let at = |x| reference::line::sprites_meet(&lent.state(), &lent.vram, 50, x..=x);
+        let shared: Vec<i32> = (-40..300).filter(|&x| at(x)).collect();
+        let also = match column {
+            Some(-32) if register_1 & 1 != 0 => Some(-31),
+            Some(270) if register_1 == 1 => Some(269),
+            Some(286) => Some(285),
+            _ => None,
+        };
+        let mut expected: Vec<i32> = column.into_iter().chain(also).collect();
+        expected.sort_unstable();
+        assert_eq!(shared, expected, "{register_1} {sprites:?}");
+    }
+}
+
+/// Full squares coincide exactly when one begins before the other has ended,
+/// on the screen, across its edges and beyond them.
+#[test]
+fn the_edges_do_not_matter() {
+    let sprite = |column: i32, colour: u8| {
+        if column < 0 {
+            [49, (column + 32) as u8, FULL, EARLY | colour]
+        } else {
+            [49, column as u8, FULL, colour]
+        }
+    };
+    for (register_1, width) in [(0, 8), (1, 16), (2, 16), (3, 32)] {
+        for one in [-32, -17, -1, 0, 100, 224, 248, 255] {
+            for two in -32..=255 {
+                let mut lent = shapes_board(register_1, &[sprite(one, 0), sprite(two, 5)]);
+                lent.draw(50);
+                let expected = if (one - two).abs() < width { 0x20 } else { 0 };
+                assert_eq!(lent.status(), expected, "{register_1}: {one} and {two}");
+            }
+        }
+    }
+}
+
+/// Five sprites on line 50: two of them stand at the place, the others apart.
+fn five_with_two_at(place: Place, two: [usize; 2]) -> [[u8; 4]; 5] {
+    let (x, shape, early) = place;
+    std::array::from_fn(|number| {
+        if two.contains(&number) {
+            [49, x, shape, early | 7]
+        } else {
+            [49, 40 + 40 * number as u8, FULL, 7]
+        }
+    })
+}
+
+/// Each two of the first four coincide, and none with the fifth.
+#[test]
+fn coincidence_of_the_first_four_alone() {
+    for (register_1, place) in [
+        (0, (0, LEFTMOST, EARLY)),
+        (0, (24, FULL, EARLY)),
+        (0, (100, FULL, 0)),
+        (0, (255, RIGHTMOST, 0)),
+        (1, (255, RIGHTMOST, 0)),
+        (2, (16, FULL, EARLY)),
+        (3, (0, FULL, EARLY)),
+        (3, (255, RIGHTMOST, 0)),
+    ] {
+        for second in 1..5 {
+            for first in 0..second {
+                let sprites = five_with_two_at(place, [first, second]);
+                let found = coincide(register_1, &sprites);
+                assert_eq!(found, second < 4, "{register_1} {sprites:?}");
+                let mut lent = shapes_board(register_1, &sprites);
+                lent.draw(50);
+                assert_eq!(lent.status(), if second < 4 { 0x64 } else { 0x44 });
+            }
+        }
+    }
+}
+
+/// Hidden columns count; lines below and above the picture do not.
+#[test]
+fn coincidence_on_the_active_lines_only() {
+    for (y, noted) in [(190, Some(191)), (191, None), (247, None), (248, Some(0))] {
+        let mut lent = shapes_board(0x00, &[[y, 0, FULL, EARLY]; 2]);
+        lent.full_draw();
+        assert_eq!(lent.status(), if noted.is_some() { 0x20 } else { 0 });
+        for (number, &note) in lent.notes.iter().enumerate() {
+            assert_eq!(note, if noted == Some(number) { 96 } else { 32 }, "{y}");
+        }
+    }
+}
+
+/// Text, two mode bits and a display that is off have no sprites.
+#[test]
+fn no_coincidence_without_sprites() {
+    for (register_0, register_1) in [(0, 0x50), (2, 0x50), (0, 0x58), (2, 0x48), (0, 0x00)] {
+        let mut lent = shapes_board(0x00, &[[49, 0, FULL, EARLY]; 2]);
+        lent.block[0] = register_0;
+        lent.block[1] = register_1;
+        lent.draw(50);
+        lent.full_draw();
+        assert_eq!(lent.status(), 0);
+        assert_eq!(lent.notes, vec![32; 192]);
+    }
+}
+
+/// A sprite that was off the screen and stays there: its lines are due as
+/// before, and their notes and status change.
+#[test]
+fn a_move_off_the_screen_changes_notes() {
+    let mut lent = shapes_board(0x00, &[[49, 8, FULL, EARLY], [49, 16, FULL, EARLY]]);
+    lent.full_draw();
+    let frame = lent.frame.clone();
+    assert_eq!((lent.status(), lent.notes[50]), (0x00, 32));
+    for (x, note, status) in [(15, 96, 0x20), (16, 32, 0x00), (1, 96, 0x20), (0, 32, 0x00)] {
+        lent.write_at(0x1005, x);
+        lent.block[13] = 0;
+        assert_eq!(lent.refresh(), 8);
+        assert_eq!((lent.status(), lent.notes[50]), (status, note), "x {x}");
+        assert_eq!(lent.frame, frame);
+    }
+}
+
+#[test]
+fn show_tells_of_hidden_coincidence() {
+    let mut lent = shapes_board(0x03, &[[49, 255, RIGHTMOST, 7]; 2]);
+    assert_eq!(lent.write_snapshot(), 0);
+    assert_eq!(show(&lent.snapshot), "status 00 20\nlines 0-191 256*1\n");
 }
 
 #[test]

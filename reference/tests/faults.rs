@@ -3,7 +3,7 @@
 
 mod common;
 
-use common::{log_of, sprite_board, Lent};
+use common::{log_of, shapes_board, sprite_board, Lent, EARLY, FULL, LEFTMOST, RIGHTMOST};
 use reference::block::*;
 use reference::faults;
 use std::fmt::Debug;
@@ -412,4 +412,79 @@ fn fault_34_trailer_high_first() {
     shows(fault, case, (0, 0, true), (8, 8, true));
     let case = || answers(&[0, 9, 0, 2, 0, 9]);
     shows(fault, case, (8, 8, false), (0, 0, false));
+}
+
+/// Status after a line with two sprites that have their only bit left of column
+/// 0, at 0, at 255, right of it.
+fn status_at_the_edges() -> [u8; 4] {
+    let places = [
+        [49, 31, LEFTMOST, EARLY],
+        [49, 0, LEFTMOST, 0],
+        [49, 248, RIGHTMOST, 0],
+        [49, 249, RIGHTMOST, 0],
+    ];
+    places.map(|sprite| status_of_two(0, sprite))
+}
+
+/// Status after a line with two sprites like this one.
+fn status_of_two(register_1: u8, sprite: [u8; 4]) -> u8 {
+    let mut lent = shapes_board(register_1, &[sprite; 2]);
+    lent.draw(50);
+    lent.status()
+}
+
+#[test]
+fn fault_35_visible_columns_only() {
+    let (right, wrong) = ([0x20; 4], [0x00, 0x20, 0x20, 0x00]);
+    let fault = faults::ONLY_VISIBLE_COINCIDE;
+    shows(fault, status_at_the_edges, right, wrong);
+}
+
+#[test]
+fn fault_36_nothing_on_the_left() {
+    let (right, wrong) = ([0x20; 4], [0x00, 0x20, 0x20, 0x20]);
+    let fault = faults::NO_COINCIDENCE_ON_THE_LEFT;
+    shows(fault, status_at_the_edges, right, wrong);
+}
+
+#[test]
+fn fault_37_nothing_on_the_right() {
+    let (right, wrong) = ([0x20; 4], [0x20, 0x20, 0x20, 0x00]);
+    let fault = faults::NO_COINCIDENCE_ON_THE_RIGHT;
+    shows(fault, status_at_the_edges, right, wrong);
+}
+
+/// Four sprites, of which the last stands on one of the others.
+#[test]
+fn fault_38_the_fourth() {
+    let fault = faults::FOURTH_DOES_NOT_COINCIDE;
+    for number in 0..3 {
+        let case = || {
+            let mut sprites = [0, 8, 16, 24].map(|x| [49, x, FULL, EARLY]);
+            sprites[3] = sprites[number];
+            let mut lent = shapes_board(0, &sprites);
+            lent.draw(50);
+            lent.status()
+        };
+        shows(fault, case, 0x20, 0x00);
+    }
+    let case = || status_of_two(0, [49, 0, FULL, EARLY]);
+    shows(fault, case, 0x20, 0x20);
+}
+
+/// Only a bit that is one column wide can be at -32 alone.
+#[test]
+fn fault_39_the_first_column() {
+    let fault = faults::FIRST_COLUMN_FORGOTTEN;
+    let case = || [0, 1, 2, 3].map(|form| status_of_two(form, [49, 0, LEFTMOST, EARLY]));
+    shows(fault, case, [0x20; 4], [0x00, 0x20, 0x00, 0x20]);
+}
+
+#[test]
+fn fault_40_the_last_columns() {
+    let fault = faults::LAST_COLUMNS_FORGOTTEN;
+    let case = || [0, 1, 2, 3].map(|form| status_of_two(form, [49, 255, RIGHTMOST, 0]));
+    shows(fault, case, [0x20; 4], [0x20, 0x20, 0x20, 0x00]);
+    let case = || status_of_two(3, [49, 254, RIGHTMOST, 0]);
+    shows(fault, case, 0x20, 0x20);
 }

@@ -3,7 +3,7 @@
 
 mod common;
 
-use common::{log_of, Lent, Random};
+use common::{log_of, shapes_board, Lent, Random, EARLY, LEFTMOST, RIGHTMOST};
 use reference::block::*;
 use reference::{faults, replay, show};
 use std::collections::BTreeMap;
@@ -250,6 +250,16 @@ fn log_calls(lent: &mut Lent, random: &mut Random) -> Vec<u32> {
     answers
 }
 
+/// Two sprites far to the left or right, close together or at one place.
+fn two_at_a_side(random: &mut Random) -> Lent {
+    let sprites = if random.chance(2) {
+        [0; 2].map(|_| [49, random.below(2) as u8, LEFTMOST, EARLY])
+    } else {
+        [0; 2].map(|_| [49, 254 + random.below(2) as u8, RIGHTMOST, 0])
+    };
+    shapes_board(random.below(4) as u8, &sprites)
+}
+
 /// All that a list of calls with refreshes leaves and answers.
 fn trace(seed: u64) -> Vec<(Vec<u32>, Lent)> {
     let mut random = Random(seed);
@@ -283,6 +293,10 @@ fn trace(seed: u64) -> Vec<(Vec<u32>, Lent)> {
         }
         vdp_reset(&mut lent.block);
         trace.push((vec![lent.refresh()], lent));
+    }
+    for _ in 0..6 {
+        let mut lent = two_at_a_side(&mut random);
+        trace.push((vec![lent.full_draw()], lent));
     }
     trace
 }

@@ -1,5 +1,5 @@
 /* The call that draws a line, from C: each refusal number, the right one when two apply at once, nothing
- * changed after a refusal, and a line of each mode. */
+ * changed after a refusal, a line of each mode, and the coincidence of two sprites at every pair of places. */
 #include "check.h"
 
 enum { LINE = 256 };
@@ -140,9 +140,69 @@ static void accepted(void)
     SHOWS("two mode bits", 1, 0x00, { 256, 1 });
 }
 
+/* One row of two sprites: without size the left bytes alone. */
+static const uint8_t left[2] = { 0x85, 0x90 }, right[2] = { 0x21, 0x09 };
+
+/* Where sprite n has set bits when it begins at column first: a mark for each of the columns -32 to 286. */
+static void columns(uint8_t *marks, int n, int first, int size, int magnify)
+{
+    int wide = magnify ? 2 : 1;
+    memset(marks, 0, 319);
+    for (int k = 0; k < (size ? 16 : 8) * wide; k++)
+        marks[first + 32 + k] = (uint8_t)((left[n] * 256 + right[n]) >> (15 - k / wide) & 1);
+}
+
+/* X from 0 to 255, and then once more with early clock. */
+static int first_of(int place) { return place % 256 - (place < 256 ? 0 : 32); }
+
+static void put_sprite(int n, int place, uint8_t colour)
+{
+    uint8_t *at = now.lent.vram + 0x1000 + 4 * n;
+    at[0] = 49;
+    at[1] = (uint8_t)place;
+    at[2] = (uint8_t)(4 * n);
+    at[3] = (uint8_t)(colour + (place < 256 ? 0 : 0x80));
+}
+
+/* One sprite, of colour 0, at a place, and a second at every place: C exactly when set bits share a column, on the
+ * screen or beside it. */
+static void coincidences_of(int place, int size, int magnify)
+{
+    uint8_t one[319], other[319];
+    char what[120];
+    int correct = 0;
+    columns(one, 0, first_of(place), size, magnify);
+    put_sprite(0, place, 0);
+    for (int second = 0; second < 512; second++) {
+        int meet = 0;
+        columns(other, 1, first_of(second), size, magnify);
+        for (int c = 0; c < 319; c++) meet |= one[c] & other[c];
+        put_sprite(1, second, 15);
+        now.lent.block[13] = 0;
+        correct += draw(VDP_BLOCK_SIZE, VDP_VRAM_SIZE, LINE, 50) == 0 && now.lent.block[13] == (meet ? 0x20 : 0);
+    }
+    snprintf(what, sizeof what, "coincidence: size %d, magnify %d, a sprite at column %d: %d of 512 right", size, magnify, first_of(place), correct);
+    check(correct == 512, what);
+}
+
+static void coincidences(void)
+{
+    for (int way = 0; way < 4; way++) {
+        uint8_t registers[8] = { 0x00, (uint8_t)(0xC0 + way), 0x05, 0x80, 0x01, 0x20, 0x00, 0x01 };
+        set_up(registers, 0x00);
+        for (int n = 0; n < 2; n++) {
+            now.lent.vram[32 * n] = left[n];
+            now.lent.vram[32 * n + 16] = right[n];
+        }
+        PUT(0x1008, 0xD0);
+        for (int place = 0; place < 512; place++) coincidences_of(place, way / 2, way % 2);
+    }
+}
+
 int main(void)
 {
     refusals();
     accepted();
+    coincidences();
     return finish("lines");
 }

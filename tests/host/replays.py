@@ -93,8 +93,52 @@ def random_calls(choose, count):
         yield operation, (value, value, None, None, value, 0, 0)[operation]
 
 
+FULL, LEFTMOST, RIGHTMOST, EARLY = 0, 4, 8, 0x80
+
+
+def with_sprites(form, sprites):
+    """A snapshot with these sprites, X, name and colour byte, on line 50: full squares, or one column at their left or right
+    edge. The form has register 1's bits for size and magnify."""
+    vram = bytearray(16384)
+    attributes = bytes(byte for sprite in sprites for byte in (49, *sprite)) + bytes([208])
+    vram[0x3B00:0x3B00 + len(attributes)] = attributes
+    rows, behind = (16, 16) if form & 2 else (8, 0)
+    for at, byte, count in ((0x1800, 0xFF, 32), (0x1820, 0x80, rows), (0x1840 + behind, 0x01, rows)):
+        vram[at:at + count] = bytes([byte]) * count
+    return chip.snapshot(vram, [0x00, 0x40 | form, 0x0E, 0xFF, 0x00, 0x76, 0x03, 0x04, 0, 0, 0, 0, 0, 0])
+
+
+def meetings():
+    """Names, snapshots and the status after line 50: sprites that meet, most of them off the screen, and some that touch."""
+    for form in range(4):
+        last = (16 if form & 2 else 8) * (2 if form & 1 else 1) - 1
+        step = 2 if form & 1 else 1
+        end = (255, RIGHTMOST, 0)
+        for name, status, sprites in (
+                ("first_column", 0x20, [(0, LEFTMOST, EARLY)] * 2),
+                ("first_column_touched", 0x00, [(0, LEFTMOST, EARLY), (step, LEFTMOST, EARLY)]),
+                ("left", 0x20, [(31 - last, RIGHTMOST, EARLY), (31, LEFTMOST, EARLY)]),
+                ("left_edge_touched", 0x00, [(31 - last, RIGHTMOST, EARLY), (0, LEFTMOST, 0)]),
+                ("left_edge", 0x20, [(32 - last, RIGHTMOST, EARLY), (0, LEFTMOST, 0)]),
+                ("right_edge", 0x20, [(255 - last, RIGHTMOST, 0), (255, LEFTMOST, 0)]),
+                ("right_edge_touched", 0x00, [(255 - last, RIGHTMOST, 0), (255 - last + step, RIGHTMOST, 0)]),
+                ("right", 0x20, [(256 - last, RIGHTMOST, 0), (255 - last + step, RIGHTMOST, 0)]),
+                ("last_column", 0x20, [end] * 2),
+                ("last_column_touched", 0x00, [(255 - step, RIGHTMOST, 0), end]),
+                ("fourth", 0x20, [(40, FULL, 7), end, (80, FULL, 7), end]),
+                ("fifth", 0x44, [(40, FULL, 7), (80, FULL, 7), end, (120, FULL, 7), end])):
+            for colour in (0, 9):
+                coloured = [(x, shape, early | colour) for x, shape, early in sprites]
+                yield "meeting_%s_form_%d_colour_%d" % (name, form, colour), with_sprites(form, coloured), status
+
+
 def accepted():
     """Names, snapshots and records."""
+    for name, start, status in meetings():
+        # drawn once more, so that the snapshot has it too
+        calls = [(4, 50), (3, status), (4, 50)]
+        assert chip.Chip(start).run(calls) == (3, 3, 0), name
+        yield name, start, calls
     for place, record in enumerate(((0, 0xAA), (1, 0x42), (2, 0x00), (3, 0x00), (4, 191), (5, 0), (6, 0))):
         yield "operation_%d" % place, POWER_UP, [record]
     yield "none", POWER_UP, []

@@ -149,6 +149,33 @@ pub fn sprite_board(register_1: u8) -> Lent {
     lent
 }
 
+/// Names of sprite shapes: all bits set, the leftmost column's alone, the
+/// rightmost column's alone.
+pub const FULL: u8 = 0;
+pub const LEFTMOST: u8 = 4;
+pub const RIGHTMOST: u8 = 8;
+
+/// The bit that moves a sprite 32 columns to the left.
+pub const EARLY: u8 = 0x80;
+
+/// A board with the three shapes, and these sprites alone.
+pub fn shapes_board(register_1: u8, sprites: &[[u8; 4]]) -> Lent {
+    let mut lent = sprite_board(register_1);
+    let (left, right) = if register_1 & 2 == 0 {
+        (0x0820..0x0828, 0x0840..0x0848)
+    } else {
+        (0x0820..0x0830, 0x0850..0x0860)
+    };
+    lent.vram[0x0800..0x0820].fill(0xFF);
+    lent.vram[left].fill(0x80);
+    lent.vram[right].fill(0x01);
+    for (number, &sprite) in sprites.iter().enumerate() {
+        lent.sprite(number, sprite);
+    }
+    lent.sprite(sprites.len(), [208, 0, 0, 0]);
+    lent
+}
+
 /// Record bytes with the trailer that they ought to have.
 pub fn with_trailer(records: &[u8]) -> Vec<u8> {
     let distance = records.len();
