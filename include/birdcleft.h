@@ -94,7 +94,8 @@ uint32_t vdp_interrupt_line(const uint8_t *block, size_t block_len);
 
 /* Draws line number 0 to 191 into 256 bytes, one colour (0 to 15) each. The line's note (below) updates status: a
  * fifth sprite sets hex 40 and puts its number into the low five bits, unless hex 40 or 80 is set already;
- * coincidence sets hex 20. Map, redraw mark and any frame stay as they are. */
+ * coincidence sets hex 20. Two of the line's first four sprites coincide where set bits share a column, on the
+ * screen or beside it, whatever their colours. Map, redraw mark and any frame stay as they are. */
 uint32_t vdp_draw_line(uint8_t *block, size_t block_len, const uint8_t *vram, size_t vram_len, uint8_t *line, size_t line_len, uint32_t number);
 
 /* A frame has lines 0 to 191 end to end. Each line has a note: the number of its fifth sprite, or 32 if
