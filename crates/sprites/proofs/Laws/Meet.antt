@@ -13,21 +13,25 @@ use Rattle.sprites.specs.Pixels.{visible, hits, anyHits, reach}
 use Rattle.sprites.specs.declared.sprite.Sprite.{Sprite}
 use Rattle.sprites.proofs.Laws.Columns.{side-small, halves, hit-low, hit-high}
 
--- a column that is among those of a row from start on, or of one from the next column on
-column : (m : Bool) (w start c : ℕ) (q : ℕ → Bool) → w ≤ 16 → start ≤ c → c < start + w * cond m 2 1 → q c ≡ true → (anyBelow 16 (λ k. q (start + k * cond m 2 1)) || anyBelow 16 (λ k. q (start + 1 + k * cond m 2 1))) ≡ true
-column false w start c q few low high e =
-    let place : start + (c - start) * 1 ≡ c = omega arith in
-    ap (λ (t : Bool). t || anyBelow 16 (λ k. q (start + 1 + k * 1))) (one-holds 16 (λ k. q (start + k * 1)) (c - start) (omega arith) (ap q place ∙ e))
-column true w start c q few low high e = by (decLt ((c - start) % 2) 1)
+-- whether q holds at a column of a row from start on, or of one from the next column on
+abbrev twoRows : Bool → ℕ → (ℕ → Bool) → Bool
+twoRows m start q = anyBelow 16 (λ k. q (start + k * cond m 2 1)) || anyBelow 16 (λ k. q (start + 1 + k * cond m 2 1))
+
+module _ (m : Bool) (start : ℕ) (q : ℕ → Bool) where
+  in-first : (k c : ℕ) → k < 16 → start + k * cond m 2 1 ≡ c → q c ≡ true → twoRows m start q ≡ true
+  in-first k c few place e = ap (λ (t : Bool). t || anyBelow 16 (λ j. q (start + 1 + j * cond m 2 1))) (one-holds 16 (λ j. q (start + j * cond m 2 1)) k few (ap q place ∙ e))
+
+  in-second : (k c : ℕ) → k < 16 → start + 1 + k * cond m 2 1 ≡ c → q c ≡ true → twoRows m start q ≡ true
+  in-second k c few place e = ap (λ (t : Bool). anyBelow 16 (λ j. q (start + j * cond m 2 1)) || t) (one-holds 16 (λ j. q (start + 1 + j * cond m 2 1)) k few (ap q place ∙ e)) ∙ or-true (anyBelow 16 (λ j. q (start + j * cond m 2 1)))
+
+-- every column of 16 bits from start on is in one of the two
+in-two-rows : (m : Bool) (w start c : ℕ) (q : ℕ → Bool) → w ≤ 16 → start ≤ c → c < start + w * cond m 2 1 → q c ≡ true → twoRows m start q ≡ true
+in-two-rows false w start c q few low high e = in-first false start q (c - start) c (omega arith) (omega arith) e
+in-two-rows true w start c q few low high e = by (decLt ((c - start) % 2) 1)
   where
-    by : Dec ((c - start) % 2 < 1) → (anyBelow 16 (λ k. q (start + k * 2)) || anyBelow 16 (λ k. q (start + 1 + k * 2))) ≡ true
-    by (yes even) =
-        let place : start + (c - start) / 2 * 2 ≡ c = omega arith in
-        ap (λ (t : Bool). t || anyBelow 16 (λ k. q (start + 1 + k * 2))) (one-holds 16 (λ k. q (start + k * 2)) ((c - start) / 2) (omega arith) (ap q place ∙ e))
-    by (no odd) =
-        let place : start + 1 + (c - start) / 2 * 2 ≡ c = omega arith in
-        ap (λ (t : Bool). anyBelow 16 (λ k. q (start + k * 2)) || t) (one-holds 16 (λ k. q (start + 1 + k * 2)) ((c - start) / 2) (omega arith) (ap q place ∙ e))
-        ∙ or-true (anyBelow 16 (λ k. q (start + k * 2)))
+    by : Dec ((c - start) % 2 < 1) → twoRows true start q ≡ true
+    by (yes even) = in-first true start q ((c - start) / 2) c (omega arith) (omega arith) e
+    by (no odd) = in-second true start q ((c - start) / 2) c (omega arith) (omega arith) e
 
 either : (s t u : Bool) → (s ≡ true → u ≡ true) → (t ≡ true → u ≡ true) → (s || t) ≡ true → u ≡ true
 either true t u f g e = f refl
@@ -42,8 +46,8 @@ module _ (r : List ℕ) (a b : Sprite) where
   start = max (a .first) (b .first)
 
   -- the columns of the two rows are all that both can reach
-  pub two-rows : a .first ≤ visible 255 → (anyBelow 16 (λ k. both (start + k * bitWidth r)) || anyBelow 16 (λ k. both (start + 1 + k * bitWidth r))) ≡ anyBelow reach both
-  two-rows near = sym (any-is reach both _ found back)
+  pub two-rows : a .first ≤ visible 255 → twoRows (magnified r) start both ≡ anyBelow reach both
+  two-rows near = sym (any-is reach both (twoRows (magnified r) start both) found back)
     where
       of-a : (c : ℕ) → both c ≡ true → hits r a c ≡ true
       of-a c e = and-left (hits r a c) (hits r b c) e
@@ -51,16 +55,16 @@ module _ (r : List ℕ) (a b : Sprite) where
       of-b : (c : ℕ) → both c ≡ true → hits r b c ≡ true
       of-b c e = and-right (hits r a c) (hits r b c) e
 
-      found : (c : ℕ) → c < reach → both c ≡ true → (anyBelow 16 (λ k. both (start + k * bitWidth r)) || anyBelow 16 (λ k. both (start + 1 + k * bitWidth r))) ≡ true
+      found : (c : ℕ) → c < reach → both c ≡ true → twoRows (magnified r) start both ≡ true
       found c h e =
           let low : start ≤ c = omega (arith, hit-low r a c (of-a c e), hit-low r b c (of-b c e)) in
           let high : c < start + side r = omega (arith, hit-high r a c (of-a c e)) in
-          column (magnified r) (cond (largeSprites r) 16 8) start c both (halves (largeSprites r)) low high e
+          in-two-rows (magnified r) (cond (largeSprites r) 16 8) start c both (halves (largeSprites r)) low high e
 
       reached : (c : ℕ) → both c ≡ true → anyBelow reach both ≡ true
       reached c e = one-holds reach both c (omega (arith, side-small r, hit-high r a c (of-a c e))) e
 
-      back : (anyBelow 16 (λ k. both (start + k * bitWidth r)) || anyBelow 16 (λ k. both (start + 1 + k * bitWidth r))) ≡ true → anyBelow reach both ≡ true
+      back : twoRows (magnified r) start both ≡ true → anyBelow reach both ≡ true
       back e =
           either _ _ _
           (any-gives 16 (λ k. both (start + k * bitWidth r)) (anyBelow reach both) (λ k h. reached (start + k * bitWidth r)))
