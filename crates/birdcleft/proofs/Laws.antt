@@ -9,13 +9,13 @@ use lib.ListN.{length}
 use borrow.Author.Tests.{eqb-true, eq-eqb, ne-eqb}
 use Rattle.chip.specs.Refusals.{Test, numberOf, resultOf, isAccepted, refusalOf, ifAccepted, vramTest, sliceTest}
 use Rattle.chip.specs.Lists.{putAt}
+use Rattle.chip.specs.TwoBytes.{lowFirst}
 use Rattle.chip.specs.Layout.{blockSize, blockOf, chipOf}
 use Rattle.chip.specs.declared.state.Chip.{Chip}
 use Rattle.chip.specs.declared.refusal.Answer.{Answer}
 use Rattle.chip.specs.declared.refusal.Refusal.{Refusal}
 use Rattle.chip.specs.declared.refusal.Refusal.the-variants.{Accepted, VramLength, SliceLength}
 use Rattle.chip.proofs.Laws.Refusals.{AllPass, all-pass, differ}
-use Rattle.snapshot.specs.Format.{lowFirst}
 use Rattle.birdcleft.specs.Calls.{blockEntry, vramEntry, resultThrough, blockThrough, listThrough}
 use Rattle.birdcleft.specs.Logs.{outcomeSize, runEntry}
 
@@ -27,15 +27,15 @@ module _ (entry : Refusal) {x : ℕ} (number : x ≡ numberOf entry * 256) where
   pub refuses : (x ≡ 0 → ⊥) → isAccepted entry ≡ false
   refuses n = ne-eqb (numberOf entry) 0 (λ z. n (number ∙ ap (λ (k : ℕ). k * 256) z))
 
--- Past the tests at entry the block has 15 bytes.
-pub block-fifteen : (block : List ℕ) {x : ℕ} → x ≡ numberOf (blockEntry block) * 256 → x ≡ 0 → length block ≡ 15
+-- Past the tests at entry the block has 17 bytes.
+pub block-seventeen : (block : List ℕ) {x : ℕ} → x ≡ numberOf (blockEntry block) * 256 → x ≡ 0 → length block ≡ 17
 unfolding blockEntry
-block-fifteen block number z =
+block-seventeen block number z =
     eqb-true _ _ (all-pass (sliceTest blockSize block ∷ []) (refl, tt) (passes (blockEntry block) number z) .0)
 
-pub vram-fifteen : (block vram : List ℕ) {x : ℕ} → x ≡ numberOf (vramEntry block vram) * 256 → x ≡ 0 → length block ≡ 15
+pub vram-seventeen : (block vram : List ℕ) {x : ℕ} → x ≡ numberOf (vramEntry block vram) * 256 → x ≡ 0 → length block ≡ 17
 unfolding vramEntry
-vram-fifteen block vram number z =
+vram-seventeen block vram number z =
     eqb-true _ _ (all-pass (vramTest vram ∷ sliceTest blockSize block ∷ []) (refl, (refl, tt)) (passes (vramEntry block vram) number z) .1 .0)
 
 -- A test of VRAM's length, and one of another slice's, by whether it passes.
@@ -49,7 +49,7 @@ sliceTested q = record { refusal = SliceLength; passes = q }
 module _ (block vram outcome : List ℕ) where
   pub run-entry-refused : isAccepted (vramEntry block vram) ≡ false → runEntry block vram outcome ≡ vramEntry block vram
   unfolding vramEntry runEntry
-  run-entry-refused = by (eqb (length vram) 16384) (eqb (length block) 15) (eqb (length outcome) 4)
+  run-entry-refused = by (eqb (length vram) 16384) (eqb (length block) 17) (eqb (length outcome) 4)
     where
       by : (p q o : Bool) → isAccepted (refusalOf (vramTested p ∷ sliceTested q ∷ [])) ≡ false → refusalOf (vramTested p ∷ sliceTested q ∷ sliceTested o ∷ []) ≡ refusalOf (vramTested p ∷ sliceTested q ∷ [])
       by true true o e = absurd (differ e)
@@ -58,7 +58,7 @@ module _ (block vram outcome : List ℕ) where
 
   run-entry-passed : isAccepted (vramEntry block vram) ≡ true → runEntry block vram outcome ≡ refusalOf (sliceTest outcomeSize outcome ∷ [])
   unfolding vramEntry runEntry
-  run-entry-passed = by (eqb (length vram) 16384) (eqb (length block) 15) (eqb (length outcome) 4)
+  run-entry-passed = by (eqb (length vram) 16384) (eqb (length block) 17) (eqb (length outcome) 4)
     where
       by : (p q o : Bool) → isAccepted (refusalOf (vramTested p ∷ sliceTested q ∷ [])) ≡ true → refusalOf (vramTested p ∷ sliceTested q ∷ sliceTested o ∷ []) ≡ refusalOf (sliceTested o ∷ [])
       by true true o e = refl
@@ -77,8 +77,8 @@ module _ (block vram outcome : List ℕ) {x : ℕ} (number : x ≡ numberOf (run
   unfolding runEntry
   entry-passes = all-pass (vramTest vram ∷ sliceTest blockSize block ∷ sliceTest outcomeSize outcome ∷ []) (refl, (refl, (refl, tt))) (passes (runEntry block vram outcome) number z)
 
-  pub run-fifteen : length block ≡ 15
-  run-fifteen = eqb-true _ _ (entry-passes .1 .0)
+  pub run-seventeen : length block ≡ 17
+  run-seventeen = eqb-true _ _ (entry-passes .1 .0)
 
   pub outcome-four : length outcome ≡ 4
   outcome-four = eqb-true _ _ (entry-passes .1 .1 .0)
@@ -124,7 +124,7 @@ two-numbers (a ∷ b ∷ c ∷ d ∷ []) x y h = refl
 two-numbers (a ∷ b ∷ c ∷ d ∷ e ∷ l) x y h = absurd (omega arith)
 
 -- The laws by the place at which a proof cites them: for the block's length, at a refusal at entry, and at the call's end.
-pub ruleset lengths = (block-fifteen, vram-fifteen, run-fifteen, outcome-four)
+pub ruleset lengths = (block-seventeen, vram-seventeen, run-seventeen, outcome-four)
 
 pub ruleset at-entry = (refused-result, refused-block, refused-list)
 

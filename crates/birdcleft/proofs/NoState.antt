@@ -1,15 +1,16 @@
--- Blocks of 15 bytes that are refused by their waiting flag, first byte or redraw mark: no state encodes to them.
+-- Blocks of 17 bytes that are refused by their waiting flag, first byte or redraw mark: no state encodes to them.
 use Prim.Native.Nat.{ℕ, _+_, _*_, _≤_, _<_}
 use native.Mathlib.Omega.{arith}
-use mathlib.Core.Path.{_≡_, refl, _∙_}
-use mathlib.Core.Bool.{Bool, true, false, cond}
+use mathlib.Core.Path.{_≡_, _∙_}
+use mathlib.Core.Bool.{Bool, true, false}
 use mathlib.Core.List.{List, [], _∷_, _++_}
 use lib.Dec.{eqb, leb}
 use lib.ListN.{length, getD}
 use borrow.Author.Tests.{lt-leb, le-leb, eq-eqb, ne-eqb}
 use Rattle.chip.specs.State.{vramSize, masked, wellFormed}
 use Rattle.chip.specs.Map.{mapSize}
-use Rattle.chip.specs.Layout.{illFormedState, waitingValid, stateIn, decoded, blockSize, chipOf}
+use Rattle.chip.specs.TwoBytes.{lowFirstAt}
+use Rattle.chip.specs.Layout.{waitingValid, stateIn, ifValid, decoded, blockSize, chipOf}
 use Rattle.chip.specs.Refusals.{Test, vramTest, sliceTest, stateTest, numberOf, refusalOf, ifAccepted}
 use Rattle.chip.specs.declared.state.Chip.{Chip}
 use Rattle.chip.specs.declared.refusal.Refusal.{Refusal}
@@ -43,15 +44,15 @@ pub data NoState (block : List ℕ) : Type 0 where
   redraw-above-1 : 1 < redrawIn block → NoState block
   byte-without-flag : flagIn block ≡ 0 → (firstByteIn block ≡ 0 → ⊥) → NoState block
 
--- where one test fails the ill-formed state is chosen
-ill-outer : (x : Bool) (c : Chip) → x ≡ false → wellFormed (cond x c illFormedState) ≡ false
-unfolding wellFormed masked
-ill-outer x c e = rw e
+-- where one of the two tests fails the address is too large
+not-valid : (x : Bool) (c : Chip) → x ≡ false → wellFormed (ifValid x c) ≡ false
+unfolding wellFormed
+not-valid x c e = rw e (and-false (masked (c .registers)))
 
-ill-inner : (x y : Bool) (c : Chip) → y ≡ false → wellFormed (cond x (cond y c illFormedState) illFormedState) ≡ false
-unfolding wellFormed masked
-ill-inner true y c e = rw e
-ill-inner false y c e = refl
+not-valid-inside : (x y : Bool) (c : Chip) → y ≡ false → wellFormed (ifValid x (ifValid y c)) ≡ false
+unfolding wellFormed
+not-valid-inside true y c e = not-valid y c e
+not-valid-inside false y c e = and-false (masked (c .registers))
 
 flag-invalid : (f a : ℕ) → 1 < f → waitingValid f a ≡ false
 flag-invalid f a h = rw (ne-eqb f 1 (λ e. omega arith), ne-eqb f 0 (λ e. omega arith))
@@ -64,11 +65,11 @@ module _ (block : List ℕ) where
   pub no-state : NoState block → wellFormed (chipOf block) ≡ false
   unfolding chipOf decoded
   no-state (flag-above-1 h) =
-      ill-inner (leb (redrawIn block) 1) (waitingValid (flagIn block) (firstByteIn block)) (stateIn block (eqb (redrawIn block) 1))
+      not-valid-inside (leb (redrawIn block) 1) (waitingValid (flagIn block) (firstByteIn block)) (stateIn block (eqb (redrawIn block) 1) (lowFirstAt block 15))
       (flag-invalid (flagIn block) (firstByteIn block) h)
-  no-state (redraw-above-1 h) = ill-outer (leb (redrawIn block) 1) (decoded block (eqb (redrawIn block) 1)) (lt-leb (redrawIn block) 1 h)
+  no-state (redraw-above-1 h) = not-valid (leb (redrawIn block) 1) (decoded block (eqb (redrawIn block) 1) (lowFirstAt block 15)) (lt-leb (redrawIn block) 1 h)
   no-state (byte-without-flag z n) =
-      ill-inner (leb (redrawIn block) 1) (waitingValid (flagIn block) (firstByteIn block)) (stateIn block (eqb (redrawIn block) 1))
+      not-valid-inside (leb (redrawIn block) 1) (waitingValid (flagIn block) (firstByteIn block)) (stateIn block (eqb (redrawIn block) 1) (lowFirstAt block 15))
       (byte-invalid (flagIn block) (firstByteIn block) z n)
 
 -- The result with refusal number 3.
@@ -89,9 +90,9 @@ module _ (block : List ℕ) (unencoded : NoState block) where
 
 -- So each of the twelve calls from C that test the state refuses such a block, if every list that it is lent has its length,
 -- and the line number is at most 191. (Power-up and reading a snapshot replace the state.)
-module _ (block : List ℕ) (unencoded : NoState block) (fifteen : length block ≡ blockSize) where
+module _ (block : List ℕ) (unencoded : NoState block) (seventeen : length block ≡ blockSize) where
   refuses : (ts : List Test) → AllPass ts → (number : ℕ) → order.resultAfter (sliceTest blockSize block ∷ (ts ++ (stateTest (chipOf block) ∷ []))) number ≡ refused
-  refuses ts p number = no-state-refused block unencoded (sliceTest blockSize block ∷ ts) (eq-eqb _ _ fifteen, p) number
+  refuses ts p number = no-state-refused block unencoded (sliceTest blockSize block ∷ ts) (eq-eqb _ _ seventeen, p) number
 
   pub status-read-refused : statusRead block .result ≡ refused
   status-read-refused = order.status-read-order block ∙ refuses [] tt _
@@ -131,7 +132,7 @@ module _ (block : List ℕ) (unencoded : NoState block) (fifteen : length block 
       pub run-log-refused : (line log outcome : List ℕ) → length line ≡ lineSize → length outcome ≡ outcomeSize → runLog block vram map line log outcome .result ≡ refused
       run-log-refused line log outcome fits four =
           order.run-log-order block vram map line log outcome
-          ∙ rw (eq-eqb (length vram) vramSize long, eq-eqb (length block) blockSize fifteen, eq-eqb (length outcome) outcomeSize four, eq-eqb (length map) mapSize mapped, eq-eqb (length line) lineSize fits, no-state block unencoded)
+          ∙ rw (eq-eqb (length vram) vramSize long, eq-eqb (length block) blockSize seventeen, eq-eqb (length outcome) outcomeSize four, eq-eqb (length map) mapSize mapped, eq-eqb (length line) lineSize fits, no-state block unencoded)
 
       module _ (frame notes : List ℕ) (framed : length frame ≡ frameSize) (noted : length notes ≡ notesSize) where
         draw-refused : (number : ℕ) → order.resultAfter (sliceTest blockSize block ∷ vramTest vram ∷ sliceTest mapSize map ∷ sliceTest frameSize frame ∷ sliceTest notesSize notes ∷ stateTest (chipOf block) ∷ []) number ≡ refused

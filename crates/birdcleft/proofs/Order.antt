@@ -40,7 +40,7 @@ resultAfter ts number = numberOf (refusalOf ts) * 256 + ifAccepted (refusalOf ts
 module _ (ts : List Test) (other : gives ts VramLength ≡ false) (number : ℕ) (block : List ℕ) where
   pub vram-in-order : (vram : List ℕ) → ifAccepted (vramEntry block vram) (resultAfter (vramTest vram ∷ ts) number) (numberOf (vramEntry block vram) * 256) ≡ resultAfter (sliceTest blockSize block ∷ vramTest vram ∷ ts) number
   unfolding vramEntry
-  vram-in-order vram = by (eqb (length vram) 16384) (eqb (length block) 15)
+  vram-in-order vram = by (eqb (length vram) 16384) (eqb (length block) 17)
     where
       by : (p q : Bool) → let entry = refusalOf (vramTested p ∷ sliceTested q ∷ []) in ifAccepted entry (resultAfter (vramTested p ∷ ts) number) (numberOf entry * 256) ≡ resultAfter (sliceTested q ∷ vramTested p ∷ ts) number
       by true true = refl
@@ -50,7 +50,7 @@ module _ (ts : List Test) (other : gives ts VramLength ≡ false) (number : ℕ)
   -- The run of a log tests the length of its outcome at entry too.
   pub run-in-order : (vram outcome : List ℕ) → ifAccepted (runEntry block vram outcome) (resultAfter (vramTest vram ∷ ts) number) (numberOf (runEntry block vram outcome) * 256) ≡ resultAfter (sliceTest blockSize block ∷ sliceTest outcomeSize outcome ∷ vramTest vram ∷ ts) number
   unfolding runEntry
-  run-in-order vram outcome = by (eqb (length vram) 16384) (eqb (length block) 15) (eqb (length outcome) 4)
+  run-in-order vram outcome = by (eqb (length vram) 16384) (eqb (length block) 17) (eqb (length outcome) 4)
     where
       by : (p q o : Bool) → let entry = refusalOf (vramTested p ∷ sliceTested q ∷ sliceTested o ∷ []) in ifAccepted entry (resultAfter (vramTested p ∷ ts) number) (numberOf entry * 256) ≡ resultAfter (sliceTested q ∷ sliceTested o ∷ vramTested p ∷ ts) number
       by true true true = refl
@@ -60,7 +60,7 @@ module _ (ts : List Test) (other : gives ts VramLength ≡ false) (number : ℕ)
 
   pub block-in-order : ifAccepted (blockEntry block) (resultAfter ts number) (numberOf (blockEntry block) * 256) ≡ resultAfter (sliceTest blockSize block ∷ ts) number
   unfolding blockEntry
-  block-in-order = by (eqb (length block) 15)
+  block-in-order = by (eqb (length block) 17)
     where
       by : (q : Bool) → let entry = refusalOf (sliceTested q ∷ []) in ifAccepted entry (resultAfter ts number) (numberOf entry * 256) ≡ resultAfter (sliceTested q ∷ ts) number
       by true = refl

@@ -1,4 +1,4 @@
--- The calls from C: a direct call on the state that a lent 15-byte block holds, between decoding and encoding.
+-- The calls from C: a direct call on the state that a lent 17-byte block holds, between decoding and encoding.
 use Prim.Native.Nat.{ℕ, _*_}
 use mathlib.Core.List.{List, [], _∷_}
 use Rattle.chip.specs.Refusals.{numberOf, resultOf, refusalOf, ifAccepted, vramTest, sliceTest}
@@ -38,7 +38,7 @@ listThrough entry block leaves lent = ifAccepted entry (leaves (chipOf block)) l
 abbrev pub through : Refusal → List ℕ → (Chip → Answer) → FromC
 through entry block call = record { result = resultThrough entry block call; block = blockThrough entry block call }
 
--- Power-up replaces the state, and so takes a block of any 15 bytes.
+-- Power-up replaces the state, and so takes a block of any 17 bytes.
 abbrev pub powerUp : List ℕ → List ℕ → FromC
 powerUp block vram = through (vramEntry block vram) block (λ c. direct.powerUp c vram)
 

@@ -1,10 +1,10 @@
 -- The calls on logs from C.
 use Prim.Native.Nat.{ℕ, _*_}
 use mathlib.Core.List.{List, [], _∷_, _++_}
+use Rattle.chip.specs.TwoBytes.{lowFirst}
 use Rattle.chip.specs.Layout.{blockSize}
 use Rattle.chip.specs.Refusals.{numberOf, refusalOf, ifAccepted, vramTest, sliceTest}
 use Rattle.chip.specs.declared.refusal.Refusal.{Refusal}
-use Rattle.snapshot.specs.Format.{lowFirst}
 use Rattle.log.specs.Calls.{readRefusal, writeRefusal}
 use Rattle.log.specs.Run as direct
 use Rattle.log.specs.declared.running.Ran.{Ran}

@@ -4,7 +4,7 @@ use mathlib.Core.List.{List}
 use Rattle.snapshot.specs.Calls as direct
 use Rattle.birdcleft.specs.Calls.{FromC, vramEntry, resultThrough, through, listThrough}
 
--- Reading replaces the state, and so takes a block of any 15 bytes.
+-- Reading replaces the state, and so takes a block of any 17 bytes.
 abbrev pub readSnapshot : List ℕ → List ℕ → List ℕ → FromC
 readSnapshot block vram s = through (vramEntry block vram) block (λ c. direct.readSnapshot c vram s)
 

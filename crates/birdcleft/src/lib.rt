@@ -26,7 +26,7 @@ fn result_of(refusal: Refusal) -> u32
 fn block_entry(block: &[u8]) -> u32
     ensures { λ r. ⌜ r ≡ numberOf (calls.blockEntry (now (block .entry))) * 256 ⌝ }
 {
-    if block.len() != 15 {
+    if block.len() != 17 {
         return result_of(Refusal::SliceLength);
     }
     result_of(Refusal::Accepted)
@@ -43,7 +43,7 @@ fn vram_entry(block: &[u8], vram: &[u8]) -> u32
 
 // Stores the next state if the call was accepted, and gives the answer as one number.
 fn finish(answer: Answer, block: &mut [u8]) -> u32
-    requires { ⌜ length (now block) ≡ 15 ⌝ }
+    requires { ⌜ length (now block) ≡ 17 ⌝ }
     ensures { λ r. ⌜ r ≡ resultOf answer ⌝ }
     ensures { λ _. ⌜ now (block .exit) ≡ ifAccepted (answer .refusal) (blockOf (answer .chip)) (now (block .entry)) ⌝ }
 {

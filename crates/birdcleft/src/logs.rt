@@ -9,9 +9,9 @@ use crate::finish;
 use crate::result_of;
 use crate::vram_entry;
 use chip::Refusal;
+use chip::low_first;
 use chip::put;
 use log::Ran;
-use snapshot::low_first;
 
 // 256 times the number of a refusal by the tests at entry, or 0.
 fn run_entry(block: &[u8], vram: &[u8], outcome: &[u8]) -> u32

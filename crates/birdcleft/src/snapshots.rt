@@ -4,7 +4,7 @@ ghost use Rattle.birdcleft.specs.Snapshots as calls;
 use crate::finish;
 use crate::vram_entry;
 
-// The state in the block is replaced, and so not tested: any 15 bytes will do.
+// The state in the block is replaced, and so not tested: any 17 bytes will do.
 #[no_mangle]
 pub extern "C" fn vdp_read_snapshot(block: &mut [u8], vram: &mut [u8], snapshot: &[u8]) -> u32
     ensures { λ r. ⌜ r ≡ calls.readSnapshot (now (block .entry)) (now (vram .entry)) (now (snapshot .entry)) .result ⌝ }

@@ -3,6 +3,7 @@
 pub mod Bits
 pub mod Lists
 pub mod Ranges
+pub mod TwoBytes
 pub mod State
 pub mod Ports
 pub mod Map

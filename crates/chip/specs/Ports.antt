@@ -5,7 +5,7 @@ use mathlib.Core.List.{List}
 use lib.Dec.{eqb, leb, ltb}
 use lib.ListN.{getD, set, replicate}
 use Rattle.chip.specs.Bits.{bit, setBit}
-use Rattle.chip.specs.State.{vramSize, kept, register, withRegisters, withAddress, withBuffer, withWaiting, withStatus, withRedraw}
+use Rattle.chip.specs.State.{vramSize, kept, register, withRegisters, withAddress, withBuffer, withWaiting, withStatus, withRedraw, withLost}
 use Rattle.chip.specs.declared.state.Chip.{Chip}
 use Rattle.chip.specs.declared.state.Waiting.{Waiting}
 use Rattle.chip.specs.declared.state.Waiting.the-variants.{Nothing, First}
@@ -37,20 +37,33 @@ controlBy (First a) b vram c = pairDone a b vram (withAddress (b % 64 * 256 + a)
 abbrev pub control : ℕ → List ℕ → Chip → Chip
 control b vram c = controlBy (c .waiting) b vram c
 
--- Data write: VRAM at the address and the buffer take the byte, the address steps, nothing waits. (Its map bit: see Map.)
+-- Where the count of lost first bytes stops.
+abbrev pub mostLost : ℕ
+mostLost = 65535
+
+-- The count n once what waits has been dropped: one more if a byte waited.
+abbrev pub lostBy : Waiting → ℕ → ℕ
+lostBy Nothing n = n
+lostBy (First a) n = cond (ltb n mostLost) (n + 1) mostLost
+
+-- A first byte that waits is dropped and counted, so that nothing waits: part of a data write, a data read and a status read.
+abbrev pub firstDropped : Chip → Chip
+firstDropped c = withLost (lostBy (c .waiting) (c .lost)) (withWaiting Nothing c)
+
+-- Data write: VRAM at the address and the buffer take the byte, the address steps. (Its map bit: see Map.)
 abbrev pub dataWritten : ℕ → Chip → Chip
-dataWritten b c = withWaiting Nothing (withAddress (nextAddress (c .address)) (withBuffer b c))
+dataWritten b c = firstDropped (withAddress (nextAddress (c .address)) (withBuffer b c))
 
 abbrev pub stored : ℕ → Chip → List ℕ → List ℕ
 stored b c vram = set vram (c .address) b
 
--- Data read: answers the buffer, which is then filled again; nothing waits.
+-- Data read: answers the buffer, which is then filled again.
 abbrev pub afterDataRead : List ℕ → Chip → Chip
-afterDataRead vram c = withWaiting Nothing (prefetched vram c)
+afterDataRead vram c = firstDropped (prefetched vram c)
 
--- Status read: answers status, then F (hex 80), 5S (40) and C (20) are clear and the low five bits stay; nothing waits.
+-- Status read: answers status, then F (hex 80), 5S (40) and C (20) are clear and the low five bits stay.
 abbrev pub afterStatusRead : Chip → Chip
-afterStatusRead c = withWaiting Nothing (withStatus (c .status % 32) c)
+afterStatusRead c = firstDropped (withStatus (c .status % 32) c)
 
 -- End of active display sets F.
 abbrev pub displayEnded : Chip → Chip
@@ -60,9 +73,10 @@ displayEnded c = withStatus (setBit 7 (c .status)) c
 abbrev pub interruptOn : Chip → Bool
 interruptOn c = bit 7 (c .status) && bit 5 (register 1 (c .registers))
 
--- After reset registers 0 and 1 and status are zero, nothing waits and the redraw mark is set. VRAM, map and the rest stay.
+-- After reset registers 0 and 1, status and the count of lost first bytes are zero, nothing waits and the redraw mark is set. A
+-- byte that waited is not counted. VRAM, map and the rest stay.
 abbrev pub wasReset : Chip → Chip
-wasReset c = withRedraw true (withWaiting Nothing (withStatus 0 (withRegisters (set (set (c .registers) 0 0) 1 0) c)))
+wasReset c = withLost 0 (withRedraw true (withWaiting Nothing (withStatus 0 (withRegisters (set (set (c .registers) 0 0) 1 0) c))))
 
 -- Power-up fills VRAM with zeros.
 abbrev pub clearedVram : List ℕ

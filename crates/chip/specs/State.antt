@@ -1,4 +1,5 @@
--- The chip's state: eight registers, a 14-bit address, the read buffer, the waiting first byte, status and the redraw mark.
+-- The chip's state: eight registers, a 14-bit address, the read buffer, the waiting first byte, status, the redraw mark and the
+-- count of lost first bytes.
 use Prim.Native.Nat.{ℕ, _<_}
 use mathlib.Core.Path.{_≡_}
 use mathlib.Core.Bool.{Bool, true, cond, _&&_}
@@ -27,9 +28,9 @@ byteOf (First a) = a
 abbrev pub waitingOf : ℕ → ℕ → Waiting
 waitingOf flag a = cond (eqb flag 1) (First a) Nothing
 
--- At power-up all is zero, nothing waits, and the redraw mark is set.
+-- At power-up all is zero, the count of lost first bytes too; nothing waits, and the redraw mark is set.
 abbrev pub powerUpState : Chip
-powerUpState = record { registers = replicate 8 0; address = 0; buffer = 0; waiting = Nothing; status = 0; redraw = true }
+powerUpState = record { registers = replicate 8 0; address = 0; buffer = 0; waiting = Nothing; status = 0; redraw = true; lost = 0 }
 
 -- The bits that registers 0 to 7 keep.
 abbrev pub masks : List ℕ
@@ -50,18 +51,19 @@ obeys registers n = eqb (kept n (register n registers)) (register n registers)
 unfoldable pub masked : List ℕ → Bool
 masked registers = allBelow 8 (obeys registers)
 
--- Whether a state is well-formed: no register holds a bit outside its mask, and the address lies within VRAM.
+-- Whether a state is well-formed: no register holds a bit outside its mask, and the address lies within VRAM. Any count
+-- of lost first bytes is allowed.
 unfoldable pub wellFormed : Chip → Bool
 wellFormed c = masked (c .registers) && leb (c .address) 16383
 
 -- The state's fields as a chain of pairs, so that one of them can be changed and the rest passed on.
 abbrev pub Fields : Type 0
-Fields = List ℕ × (ℕ × (ℕ × (Waiting × (ℕ × (Bool × Unit {0})))))
+Fields = List ℕ × (ℕ × (ℕ × (Waiting × (ℕ × (Bool × (ℕ × Unit {0}))))))
 
 -- The state built again from its fields after a change to their chain.
 abbrev pub rebuilt : (Fields → Fields) → Chip → Chip
 rebuilt change c =
-    let f : Fields = change (c .registers, (c .address, (c .buffer, (c .waiting, (c .status, (c .redraw, tt)))))) in
+    let f : Fields = change (c .registers, (c .address, (c .buffer, (c .waiting, (c .status, (c .redraw, (c .lost, tt))))))) in
     record {
       registers = f .0;
       address = f .1 .0;
@@ -69,6 +71,7 @@ rebuilt change c =
       waiting = f .1 .1 .1 .0;
       status = f .1 .1 .1 .1 .0;
       redraw = f .1 .1 .1 .1 .1 .0;
+      lost = f .1 .1 .1 .1 .1 .1 .0;
     }
 
 -- A chain with its head replaced, and with its tail changed.
@@ -87,6 +90,7 @@ pub data Change : Type 0 where
   waitingTo : Waiting → Change
   statusTo : ℕ → Change
   redrawTo : Bool → Change
+  lostTo : ℕ → Change
 
 abbrev pub changed : Change → Chip → Chip
 changed (registersTo l) c = rebuilt (headTo l) c
@@ -95,6 +99,7 @@ changed (bufferTo b) c = rebuilt (inTail (inTail (headTo b))) c
 changed (waitingTo w) c = rebuilt (inTail (inTail (inTail (headTo w)))) c
 changed (statusTo s) c = rebuilt (inTail (inTail (inTail (inTail (headTo s))))) c
 changed (redrawTo m) c = rebuilt (inTail (inTail (inTail (inTail (inTail (headTo m)))))) c
+changed (lostTo n) c = rebuilt (inTail (inTail (inTail (inTail (inTail (inTail (headTo n))))))) c
 
 abbrev pub withRegisters : List ℕ → Chip → Chip
 withRegisters l c = changed (registersTo l) c
@@ -114,6 +119,9 @@ withStatus s c = changed (statusTo s) c
 abbrev pub withRedraw : Bool → Chip → Chip
 withRedraw m c = changed (redrawTo m) c
 
+abbrev pub withLost : ℕ → Chip → Chip
+withLost n c = changed (lostTo n) c
+
 -- That a list holds bytes.
 abbrev pub Bytes : List ℕ → Type 0
 Bytes l = (i : ℕ) → getD l i 0 < 256
@@ -126,3 +134,4 @@ pub record Fits (c : Chip) : Type 0 where
   pub buffer : c .buffer < 256
   pub waiting : byteOf (c .waiting) < 256
   pub status : c .status < 256
+  pub lost : c .lost < 65536

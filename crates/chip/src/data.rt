@@ -10,7 +10,6 @@ use crate::map::set_dirty;
 use crate::refusal::Answer;
 use crate::refusal::Refusal;
 use crate::state::Chip;
-use crate::state::Waiting;
 
 impl Chip {
     fn take_data_byte(self, vram: &mut [u8], map: &mut [u8], b: u8) -> Chip
@@ -22,7 +21,7 @@ impl Chip {
         let at = self.address;
         vram[at as usize] = b;
         set_dirty(map, at as usize);
-        let mut written = self.with_waiting(Waiting::Nothing);
+        let mut written = self.drop_first();
         written.buffer = b;
         written.address = step(at);
         written
@@ -55,7 +54,7 @@ impl Chip {
         if !self.is_well_formed() {
             return self.refused(Refusal::IllFormed);
         }
-        let next = self.prefetch(vram).with_waiting(Waiting::Nothing);
+        let next = self.prefetch(vram).drop_first();
         next.accepted(self.buffer)
     }
 }

@@ -32,6 +32,7 @@ impl Chip {
         next.registers[1] = 0;
         next.status = 0;
         next.redraw = true;
+        next.lost = 0;
         next.accepted(0)
     }
 }

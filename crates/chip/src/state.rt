@@ -16,6 +16,7 @@ pub struct Chip {
     pub waiting: Waiting,
     pub status: u8,
     pub redraw: bool,
+    pub lost: u16,
 }
 
 // The bits that each register keeps.
@@ -53,6 +54,7 @@ impl Chip {
             waiting: Waiting::Nothing,
             status: 0,
             redraw: true,
+            lost: 0,
         }
     }
 
@@ -74,6 +76,7 @@ impl Chip {
             waiting: waiting,
             status: self.status,
             redraw: self.redraw,
+            lost: self.lost,
         }
     }
 }

@@ -6,7 +6,6 @@ use crate::bits::set_bit;
 use crate::refusal::Answer;
 use crate::refusal::Refusal;
 use crate::state::Chip;
-use crate::state::Waiting;
 
 impl Chip {
     pub fn status_read(self) -> Answer
@@ -15,7 +14,7 @@ impl Chip {
         if !self.is_well_formed() {
             return self.refused(Refusal::IllFormed);
         }
-        let mut next = self.with_waiting(Waiting::Nothing);
+        let mut next = self.drop_first();
         next.status = self.status % 32;
         next.accepted(self.status)
     }

@@ -5,6 +5,7 @@ use mathlib.Core.Bool.{true, false}
 use mathlib.Core.List.{List, [], _∷_, _++_}
 use lib.ListN.{set, replicate}
 use lib.Seq.{sets}
+use Rattle.chip.specs.State.{withLost}
 use Rattle.chip.specs.Calls.{controlWrite, dataWrite, dataWriteVram, dataWriteMap, statusRead}
 use Rattle.scanline.specs.Calls.{colours, drawLine}
 use Rattle.chip.specs.declared.state.Chip.{Chip}
@@ -46,13 +47,16 @@ memory = set (set (set (set (replicate 16384 0) 0x3FFF 0x5C) 0 0xA3) 0x42 0x17) 
 abbrev pub noneDirty : List ℕ
 noneDirty = replicate 2048 0
 
--- No register, address, buffer or status is zero, and the redraw mark is clear.
+-- No register, address, buffer, status or count of lost first bytes is zero, and the redraw mark is clear.
 abbrev pub registers : List ℕ
 registers = 0x02 ∷ 0xE0 ∷ 0x05 ∷ 0x80 ∷ 0x01 ∷ 0x20 ∷ 0x03 ∷ 0xF1 ∷ []
 
+abbrev pub lostBefore : ℕ
+lostBefore = 0x03FF
+
 abbrev pub state : ℕ → ℕ → Waiting → ℕ → Chip
 state address buffer waiting status =
-    record { registers = registers; address = address; buffer = buffer; waiting = waiting; status = status; redraw = false }
+    record { registers = registers; address = address; buffer = buffer; waiting = waiting; status = status; redraw = false; lost = lostBefore }
 
 abbrev pub start : PortBench
 start = record { chip = state 0x1234 0x99 Nothing 0x4C; vram = memory; map = noneDirty }
@@ -82,14 +86,18 @@ P4 =
             waiting = Nothing;
             status = 0x4C;
             redraw = true;
+            lost = lostBefore;
           };
       vram = memory;
       map = noneDirty;
     }
 
--- P5: control FF, status read, control 07: 07 waits, as the status read dropped FF. Address and registers stay.
+-- P5: control FF, status read, control 07: 07 waits, as the status read dropped FF, and the count has risen by one. Address and
+-- registers stay.
 abbrev pub P5 : Type 0
-P5 = control 0x07 (status (control 0xFF start)) ≡ record { chip = state 0x1234 0x99 (First 0x07) 0x0C; vram = memory; map = noneDirty }
+P5 =
+    control 0x07 (status (control 0xFF start))
+    ≡ record { chip = withLost (lostBefore + 1) (state 0x1234 0x99 (First 0x07) 0x0C); vram = memory; map = noneDirty }
 
 -- A memory for one sprite: attributes at 1000 with a terminator behind it, its pattern at 1800, its colour 15. Names,
 -- patterns and colours of the plane are zero.
@@ -143,18 +151,17 @@ fiveSprites =
 abbrev pub withFive : List ℕ
 withFive = sets (sets (replicate 16384 0) 0x1000 fiveSprites) 0x1800 allSet
 
-abbrev pub statusAt100 : ℕ → ℕ
-statusAt100 s =
-    drawLine
-    (record { registers = spriteRegisters 0; address = 0; buffer = 0; waiting = Nothing; status = s; redraw = false })
-    withFive
-    (replicate 256 0)
-    100
-    .chip .status
+abbrev pub spriteState : ℕ → Chip
+spriteState s =
+    record { registers = spriteRegisters 0; address = 0x1234; buffer = 0x99; waiting = Nothing; status = s; redraw = false; lost = lostBefore }
 
--- The number is taken only while 5S and F are clear: 00 becomes 4C, 80 stays 80, 45 stays 45.
+abbrev pub after100 : ℕ → Chip
+after100 s = drawLine (spriteState s) withFive (replicate 256 0) 100 .chip
+
+-- The number is taken only while 5S and F are clear: status 00 becomes 4C, 80 stays 80, 45 stays 45. Nothing else of the state
+-- changes.
 abbrev pub P9 : Type 0
-P9 = (statusAt100 0x00 ≡ 0x4C) × (statusAt100 0x80 ≡ 0x80) × (statusAt100 0x45 ≡ 0x45)
+P9 = (after100 0x00 ≡ spriteState 0x4C) × (after100 0x80 ≡ spriteState 0x80) × (after100 0x45 ≡ spriteState 0x45)
 
 -- P10: reading status 4C returns 4C and leaves 0C.
 abbrev pub P10 : Type 0

@@ -8,7 +8,7 @@ use Rattle.chip.specs.Refusals.{Test, numberOf, vramTest, sliceTest, stateTest}
 use Rattle.chip.specs.declared.state.Chip.{Chip}
 use Rattle.chip.specs.declared.refusal.Answer.{Answer}
 use Rattle.frame.specs.Lines.{frameSize, notesSize}
-use Rattle.snapshot.specs.Tests.{pairAt}
+use Rattle.chip.specs.TwoBytes.{lowFirstAt}
 use Rattle.log.specs.declared.running.Ran.{Ran}
 use Rattle.birdcleft.specs.Calls.{FromC}
 use Rattle.claims.specs.Bench.{Bench}
@@ -133,7 +133,7 @@ ofOutcome r outcome =
     record {
       state = r .block;
       refusal = r .result / 256;
-      values = r .result % 256 ∷ cond (eqb (r .result / 256) 0) (pairAt outcome 0 ∷ pairAt outcome 2 ∷ []) (0 ∷ 0 ∷ []);
+      values = r .result % 256 ∷ cond (eqb (r .result / 256) 0) (lowFirstAt outcome 0 ∷ lowFirstAt outcome 2 ∷ []) (0 ∷ 0 ∷ []);
     }
 
 module _ {S : Type 0} where

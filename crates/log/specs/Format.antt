@@ -2,7 +2,8 @@
 use Prim.Native.Nat.{ℕ, _-_}
 use mathlib.Core.List.{List, _++_}
 use lib.ListN.{length, take}
-use Rattle.snapshot.specs.Format.{lowFirst, checksum}
+use Rattle.chip.specs.TwoBytes.{lowFirst}
+use Rattle.snapshot.specs.Format.{checksum}
 
 -- How many bytes the trailer has, and a log at most: that is with 20,000 records.
 abbrev pub logTrailerSize : ℕ

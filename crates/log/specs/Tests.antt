@@ -4,10 +4,10 @@ use mathlib.Core.Bool.{Bool, _&&_}
 use mathlib.Core.List.{List, [], _∷_}
 use lib.Dec.{eqb, leb}
 use lib.ListN.{length}
+use Rattle.chip.specs.TwoBytes.{lowFirstAt}
 use Rattle.chip.specs.Refusals.{Test}
 use Rattle.chip.specs.declared.refusal.Refusal.the-variants.{LogForm, LogRecord}
 use Rattle.snapshot.specs.Format.{checksum}
-use Rattle.snapshot.specs.Tests.{pairAt}
 use Rattle.log.specs.Format.{logTrailerSize, longestLog, logTrailerAt, recordBytes}
 use Rattle.log.specs.Records.{recordsOf, allAllowed}
 
@@ -24,10 +24,10 @@ recordsSizeTest log records = record { refusal = LogForm; passes = eqb (length r
 
 -- Whether the trailer has the right distance, and the right sum.
 unfoldable pub distanceRight : List ℕ → Bool
-distanceRight log = eqb (pairAt log (logTrailerAt log)) (logTrailerAt log)
+distanceRight log = eqb (lowFirstAt log (logTrailerAt log)) (logTrailerAt log)
 
 unfoldable pub logSumRight : List ℕ → Bool
-logSumRight log = eqb (pairAt log (logTrailerAt log + 2)) (checksum (recordBytes log))
+logSumRight log = eqb (lowFirstAt log (logTrailerAt log + 2)) (checksum (recordBytes log))
 
 abbrev pub distanceTest : List ℕ → Test
 distanceTest log = record { refusal = LogForm; passes = distanceRight log }

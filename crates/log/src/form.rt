@@ -7,6 +7,7 @@ ghost use Rattle.log.specs.Format.{recordBytes};
 ghost use Rattle.log.specs.Tests.{sizeAllowed, distanceRight, logSumRight, logTests};
 use crate::records::all_allowed;
 use chip::Refusal;
+use chip::low_first_at;
 
 // Whether a log can have so many bytes.
 pub fn size_allowed(n: usize) -> bool
@@ -30,7 +31,7 @@ fn distance_right(log: &[u8]) -> bool
     ensures { λ r. ⌜ r ≡ distanceRight (now (log .entry)) ⌝ }
 {
     let trailer = log.len() - 4;
-    let distance = snapshot::pair_at(log, trailer);
+    let distance = low_first_at(log, trailer);
     distance as usize == trailer
 }
 
@@ -40,7 +41,7 @@ fn sum_right(log: &[u8]) -> bool
     ensures { λ r. ⌜ r ≡ logSumRight (now (log .entry)) ⌝ }
 {
     let trailer = log.len() - 4;
-    let stored = snapshot::pair_at(log, trailer + 2);
+    let stored = low_first_at(log, trailer + 2);
     stored == snapshot::checksum(&log[..trailer])
 }
 

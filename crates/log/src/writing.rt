@@ -7,8 +7,8 @@ ghost use Rattle.log.specs.Calls.{writeRefusal, writtenLog};
 use crate::form::size_allowed;
 use crate::records::all_allowed;
 use chip::Refusal;
+use chip::low_first;
 use chip::put;
-use snapshot::low_first;
 
 // The records, and then the trailer.
 fn fill(records: &[u8], log: &mut [u8])

@@ -7,4 +7,4 @@ use Rattle.chip.specs.declared.state.Waiting.the-variants.{Nothing}
 
 -- These registers and this status; the rest is as at power-up, with no redraw due.
 abbrev pub stateOf : List ℕ → ℕ → Chip
-stateOf r s = record { registers = r; address = 0; buffer = 0; waiting = Nothing; status = s; redraw = false }
+stateOf r s = record { registers = r; address = 0; buffer = 0; waiting = Nothing; status = s; redraw = false; lost = 0 }

@@ -17,6 +17,7 @@ fn chip_of(r: [u8; 8], status: u8) -> Chip
         waiting: Waiting::Nothing,
         status: status,
         redraw: false,
+        lost: 0,
     }
 }
 

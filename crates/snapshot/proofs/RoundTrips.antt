@@ -12,8 +12,8 @@ use Rattle.chip.specs.declared.refusal.Refusal.the-variants.{Accepted}
 use Rattle.chip.proofs.Laws.Refusals.{the-new}
 use Rattle.chip.proofs.Laws.Layout.{decoded-encoded}
 use Rattle.snapshot.specs.Format.{snapshotOf}
-use Rattle.snapshot.specs.Tests.{trailerAt, stateBytes, vramBytes}
-use Rattle.snapshot.specs.Calls.{writeRefusal, writeSnapshot, written, readRefusal, readSnapshot, readVram, butRedraw}
+use Rattle.snapshot.specs.Tests.{trailerAt, vramBytes, heldState}
+use Rattle.snapshot.specs.Calls.{writeRefusal, writeSnapshot, written, readRefusal, readSnapshot, readVram, asStored}
 use Rattle.snapshot.proofs.Laws.Bytes.{bytes-snapshot}
 use Rattle.snapshot.proofs.Laws.Parts.{length-vram}
 use Rattle.snapshot.proofs.Laws.Refusals.{write-accepted, read-accepted, accepted-readable}
@@ -22,7 +22,8 @@ use Rattle.snapshot.proofs.Laws.Accepted.{file-back}
 
 -- Take any well-formed state whose values fit their types, any 16,384 bytes of VRAM, and a slice of 16,406 to write to,
 -- whatever it holds; let the reader have any state and any VRAM of its own. Then writing is accepted, what it writes are
--- bytes, reading them is accepted, and reading gives that VRAM back, and that state but for the redraw mark.
+-- bytes, reading them is accepted, and reading gives that VRAM back, and that state but for the redraw mark,
+-- which is set, and the count of lost first bytes, which is 0.
 pub written-read : (c : Chip) → Fits c → wellFormed c ≡ true
     → (vram : List ℕ) → Bytes vram → length vram ≡ 16384
     → (out : List ℕ) → length out ≡ 16406
@@ -32,7 +33,7 @@ pub written-read : (c : Chip) → Fits c → wellFormed c ≡ true
     × Bytes file
     × (readSnapshot other old file .refusal ≡ Accepted)
     × (readVram old file ≡ vram)
-    × (butRedraw (readSnapshot other old file .chip) ≡ butRedraw c)
+    × (readSnapshot other old file .chip ≡ asStored c)
 written-read c fits ok vram bytes long out room other old long-old =
     let writes : writeRefusal c vram out ≡ Accepted = write-accepted c vram out long room ok in
     let file : written c vram out ≡ snapshotOf c vram = the-new writes (snapshotOf c vram) out in
@@ -42,10 +43,9 @@ written-read c fits ok vram bytes long out room other old long-old =
       bytes-snapshot c vram fits bytes,
       reads,
       the-new reads (vramBytes (snapshotOf c vram)) old ∙ vram-back c (fits .eight) vram long,
-      ap butRedraw
-          (the-new reads (decoded (stateBytes (snapshotOf c vram)) true) other
-          ∙ ap (λ (b : List ℕ). decoded b true) (state-back c (fits .eight) vram long)
-          ∙ decoded-encoded c (fits .eight) true),
+      the-new reads (heldState (snapshotOf c vram)) other
+          ∙ ap (λ (b : List ℕ). decoded b true 0) (state-back c (fits .eight) vram long)
+          ∙ decoded-encoded c (fits .eight) true 0,
     )
 
 -- Take any file of bytes that reading accepts, whatever state and VRAM the reader had, and a slice of 16,406 to write to,
@@ -58,7 +58,7 @@ pub read-written : (file : List ℕ) → Bytes file
     (writeSnapshot c vram out .refusal ≡ Accepted) × (written c vram out ≡ file)
 read-written file bytes other old reads out room =
     let r = accepted-readable old file reads in
-    let held : Chip = decoded (stateBytes file) true in
+    let held : Chip = heldState file in
     let state : readSnapshot other old file .chip ≡ held = the-new reads held other in
     let vram : readVram old file ≡ vramBytes file = the-new reads (vramBytes file) old in
     let writes : writeRefusal held (vramBytes file) out ≡ Accepted = write-accepted held (vramBytes file) out (length-vram file (r .whole)) room (r .holds) in

@@ -2,14 +2,13 @@
 use Prim.Native.Nat.{ℕ}
 use mathlib.Core.Bool.{true}
 use mathlib.Core.List.{List, [], _∷_}
-use Rattle.chip.specs.State.{withRedraw}
-use Rattle.chip.specs.Layout.{decoded}
+use Rattle.chip.specs.State.{withRedraw, withLost}
 use Rattle.chip.specs.Refusals.{Test, vramTest, stateTest, refusalOf, ifAccepted, answered}
 use Rattle.chip.specs.declared.state.Chip.{Chip}
 use Rattle.chip.specs.declared.refusal.Answer.{Answer}
 use Rattle.chip.specs.declared.refusal.Refusal.{Refusal}
 use Rattle.snapshot.specs.Format.{snapshotOf}
-use Rattle.snapshot.specs.Tests.{stateBytes, vramBytes, sizeTest, trailerTest, sumTest, contentsTest}
+use Rattle.snapshot.specs.Tests.{vramBytes, heldState, sizeTest, trailerTest, sumTest, contentsTest}
 
 -- The test of what writing alone is given, the list to write to.
 abbrev pub outputTests : List ℕ → List Test
@@ -39,13 +38,13 @@ readTests vram s = vramTest vram ∷ fileTests s
 abbrev pub readRefusal : List ℕ → List ℕ → Refusal
 readRefusal vram s = refusalOf (readTests vram s)
 
--- The redraw mark is not stored: reading sets it.
 abbrev pub readSnapshot : Chip → List ℕ → List ℕ → Answer
-readSnapshot c vram s = answered (readRefusal vram s) c (decoded (stateBytes s) true) 0
+readSnapshot c vram s = answered (readRefusal vram s) c (heldState s) 0
 
 abbrev pub readVram : List ℕ → List ℕ → List ℕ
 readVram vram s = ifAccepted (readRefusal vram s) (vramBytes s) vram
 
--- A state but for its redraw mark, which a snapshot does not keep: two states have the same exactly when they differ in the mark at most.
-abbrev pub butRedraw : Chip → Chip
-butRedraw c = withRedraw true c
+-- A state but for the redraw mark and the count of lost first bytes, which a snapshot does not store: the mark is set, and the
+-- count 0. Two states give the same exactly when they differ in these at most.
+abbrev pub asStored : Chip → Chip
+asStored c = withLost 0 (withRedraw true c)

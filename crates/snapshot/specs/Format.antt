@@ -1,6 +1,7 @@
 -- The snapshot: VRAM, the 14-byte state block, and an 8-byte trailer that points back.
-use Prim.Native.Nat.{ℕ, _+_, _/_, _%_}
+use Prim.Native.Nat.{ℕ, _+_, _%_}
 use mathlib.Core.List.{List, [], _∷_, _++_}
+use Rattle.chip.specs.TwoBytes.{lowFirst}
 use Rattle.chip.specs.Layout.{encoded}
 use Rattle.chip.specs.declared.state.Chip.{Chip}
 
@@ -17,10 +18,6 @@ toBlock = 14
 
 abbrev pub toVram : ℕ
 toVram = 16398
-
--- A number as two bytes, low first.
-abbrev pub lowFirst : ℕ → List ℕ
-lowFirst n = n % 256 ∷ n / 256 ∷ []
 
 -- The trailer up to the sum: its signature hex 56 31, then the two distances.
 abbrev pub pointers : List ℕ

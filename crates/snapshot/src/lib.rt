@@ -7,6 +7,4 @@ mod writing;
 
 pub use reading::read;
 pub use sums::checksum;
-pub use trailer::low_first;
-pub use trailer::pair_at;
 pub use writing::write;

@@ -26,7 +26,7 @@ pub fn read(chip: Chip, vram: &mut [u8], snapshot: &[u8]) -> Answer
     if !sum_is_right(snapshot) {
         return chip.refused(Refusal::Checksum);
     }
-    let next = chip::decode(state_bytes(snapshot), true);
+    let next = chip::decode(state_bytes(snapshot), true, 0);
     if !next.is_well_formed() {
         return chip.refused(Refusal::IllFormed);
     }

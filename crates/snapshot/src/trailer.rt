@@ -1,31 +1,17 @@
 // The trailer: the last eight bytes, from which everything else is found.
 ghost use mathlib.Core.Path.{_≡_};
-ghost use Prim.Native.Nat.{_+_, _≤_, _<_};
+ghost use Prim.Native.Nat.{_≤_};
 ghost use lib.ListN.{length};
-ghost use Rattle.snapshot.specs.Format.{lowFirst, pointers};
-ghost use Rattle.snapshot.specs.Tests.{pairAt, pointsBack, sumRight};
+ghost use Rattle.snapshot.specs.Format.{pointers};
+ghost use Rattle.snapshot.specs.Tests.{pointsBack, sumRight};
 use crate::sums::checksum;
+use chip::low_first_at;
 
 // The signature, and the distances back to the state (14) and to VRAM (16,398), low byte first.
 pub fn pointer_bytes() -> [u8; 6]
     ensures { λ r. ⌜ r ≡ pointers ⌝ }
 {
     [0x56, 0x31, 0x0E, 0x00, 0x0E, 0x40]
-}
-
-// The number in two bytes, low first.
-pub fn pair_at(s: &[u8], i: usize) -> u16
-    requires { ⌜ i + 1 < length (now s) ⌝ }
-    ensures { λ r. ⌜ r ≡ pairAt (now (s .entry)) i ⌝ }
-{
-    s[i] as u16 + 256 * (s[i + 1] as u16)
-}
-
-// A number as two bytes, low first.
-pub fn low_first(n: u16) -> [u8; 2]
-    ensures { λ r. ⌜ r ≡ lowFirst n ⌝ }
-{
-    [(n % 256) as u8, (n / 256) as u8]
 }
 
 // Whether the signature and both distances are right.
@@ -35,8 +21,8 @@ pub fn points_back(s: &[u8]) -> bool
 {
     let trailer = s.len() - 8;
     let signature = (s[trailer] == 0x56) & (s[trailer + 1] == 0x31);
-    let block = pair_at(s, trailer + 2);
-    let vram = pair_at(s, trailer + 4);
+    let block = low_first_at(s, trailer + 2);
+    let vram = low_first_at(s, trailer + 4);
     signature & (block == 14) & (vram == 16398)
 }
 
@@ -46,6 +32,6 @@ pub fn sum_is_right(s: &[u8]) -> bool
     ensures { λ r. ⌜ r ≡ sumRight (now (s .entry)) ⌝ }
 {
     let field = s.len() - 8 + 6;
-    let stored = pair_at(s, field);
+    let stored = low_first_at(s, field);
     stored == checksum(&s[..field])
 }

@@ -4,11 +4,11 @@ ghost use lib.ListN.{length};
 ghost use Rattle.snapshot.specs.Format.{snapshotOf};
 ghost use Rattle.snapshot.specs.Calls.{writeSnapshot, written};
 use crate::sums::checksum;
-use crate::trailer::low_first;
 use crate::trailer::pointer_bytes;
 use chip::Answer;
 use chip::Chip;
 use chip::Refusal;
+use chip::low_first;
 use chip::put;
 
 // Fills the slice, each part at its distance before the trailer; the sum comes last, over all that stands before it.

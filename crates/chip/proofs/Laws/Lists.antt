@@ -2,12 +2,12 @@
 use Prim.Native.Nat.{ℕ, zero, suc, _+_, _≤_, _<_, suc-le-suc}
 use native.Mathlib.Nat.{not-suc-le-zero, le-of-suc-le-suc, ne-of-lt, zero-lt-suc}
 use mathlib.Core.Path.{_≡_, refl, ap, ap₂, sym, _∙_}
-use mathlib.Core.List.{List, [], _∷_, _++_}
+use mathlib.Core.List.{List, [], _∷_, _++_, append-nil}
 use Rattle.chip.specs.Lists.{tabulate}
 use Rattle.chip.specs.State.{Bytes}
 use lib.Dec.{lit<}
-use lib.ListN.{length, getD, take, set, replicate}
-use lib.Seq.{take-all, set-at, ext-getD, getD-set-same, getD-set-other}
+use lib.ListN.{length, getD, take, drop, set, replicate, length-append}
+use lib.Seq.{take-all, take-at, drop-length, sets, sets-eq, ext-getD, getD-set-same, getD-set-other}
 use borrow.Author.Count.{below-more}
 use native.Mathlib.Omega.{arith}
 
@@ -43,11 +43,14 @@ pub tabulated : {l : List ℕ} {n : ℕ} {f : ℕ → ℕ} → length l ≡ n �
 tabulated {l} {n} {f} e h =
     ext-getD 0 l (tabulate n f) (e ∙ sym (length-tabulate n f)) (λ i below. h i (omega arith) ∙ sym (getD-tabulate n f i (omega arith)))
 
--- the one element after a list of n replaced
-pub set-last : (p q : List ℕ) (n x : ℕ) → length p ≡ n → length q ≡ 1 → set (p ++ q) n x ≡ p ++ (x ∷ [])
-set-last p [] n x hp hq = absurd (omega arith)
-set-last p (y ∷ []) n x hp hq = set-at p y [] x n hp
-set-last p (y ∷ z ∷ q) n x hp hq = absurd (omega arith)
+-- a list's elements from n on replaced, all of them
+pub set-rest : (p q vs : List ℕ) (n : ℕ) → length p ≡ n → length q ≡ length vs → sets (p ++ q) n vs ≡ p ++ vs
+set-rest p q vs n hp hq =
+    let whole : length (p ++ q) ≡ n + length vs = length-append p q ∙ ap₂ _+_ hp hq in
+    let none : drop (n + length vs) (p ++ q) ≡ [] = ap (λ (k : ℕ). drop k (p ++ q)) (sym whole) ∙ drop-length (p ++ q) in
+    sets-eq vs (p ++ q) n (omega arith)
+    ∙ ap₂ (λ (front back : List ℕ). (front ++ vs) ++ back) (take-at p q n hp) none
+    ∙ append-nil (p ++ vs)
 
 -- A list that a loop fills from the front: its first i elements are f's.
 pub record Filled (s : List ℕ) (f : ℕ → ℕ) (i : ℕ) : Type 0 where

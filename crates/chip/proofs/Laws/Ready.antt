@@ -7,10 +7,10 @@ use mathlib.Core.List.{List}
 use lib.Bits.{or-lt}
 use lib.Dec.{ltb, leb, lit<}
 use lib.ListN.{length-set, getD, set}
-use borrow.Author.Tests.{le-leb}
+use borrow.Author.Tests.{le-leb, ltb-true}
 use Rattle.chip.specs.Bits.{setBit}
-use Rattle.chip.specs.State.{Bytes, Fits, byteOf, kept, masked, wellFormed, powerUpState, Change, registersTo, addressTo, bufferTo, waitingTo, statusTo, redrawTo, changed, withRegisters}
-use Rattle.chip.specs.Ports.{nextAddress, prefetched, registerWritten, controlBy, control, dataWritten, afterDataRead, afterStatusRead, displayEnded, wasReset}
+use Rattle.chip.specs.State.{Bytes, Fits, byteOf, kept, masked, wellFormed, powerUpState, Change, registersTo, addressTo, bufferTo, waitingTo, statusTo, redrawTo, lostTo, changed, withRegisters}
+use Rattle.chip.specs.Ports.{nextAddress, prefetched, registerWritten, controlBy, control, mostLost, lostBy, firstDropped, dataWritten, afterDataRead, afterStatusRead, displayEnded, wasReset}
 use Rattle.chip.specs.declared.state.Chip.{Chip}
 use Rattle.chip.specs.declared.state.Waiting.{Waiting}
 use Rattle.chip.specs.declared.state.Waiting.the-variants.{Nothing, First}
@@ -31,6 +31,7 @@ KeepsWellFormed (bufferTo b) = Unit {0}
 KeepsWellFormed (waitingTo w) = Unit {0}
 KeepsWellFormed (statusTo s) = Unit {0}
 KeepsWellFormed (redrawTo m) = Unit {0}
+KeepsWellFormed (lostTo n) = Unit {0}
 
 well-formed-changed : (k : Change) → KeepsWellFormed k → (c : Chip) → wellFormed c ≡ true → wellFormed (changed k c) ≡ true
 unfolding wellFormed
@@ -40,6 +41,7 @@ well-formed-changed (bufferTo b) h c ok = ok
 well-formed-changed (waitingTo w) h c ok = ok
 well-formed-changed (statusTo s) h c ok = ok
 well-formed-changed (redrawTo m) h c ok = ok
+well-formed-changed (lostTo n) h c ok = ok
 
 -- One field changed.
 pub ready-changed : (k : Change) → FitsType k → KeepsWellFormed k → {c : Chip} → Ready c → Ready (changed k c)
@@ -55,11 +57,24 @@ at-address a h ready = ready-changed (addressTo a) (omega arith) h ready
 nothing-waits : {c : Chip} → Ready c → Ready (changed (waitingTo Nothing) c)
 nothing-waits ready = ready-changed (waitingTo Nothing) (lit< tt) tt ready
 
+-- the count stops
+lost-small : (w : Waiting) (n : ℕ) → n < 65536 → lostBy w n < 65536
+lost-small Nothing n h = h
+lost-small (First a) n h = by (ltb n mostLost) refl
+  where
+    by : (t : Bool) → ltb n mostLost ≡ t → cond t (n + 1) mostLost < 65536
+    by true e = let below = ltb-true n mostLost e in omega arith
+    by false e = lit< tt
+
+first-dropped : {c : Chip} → Ready c → Ready (firstDropped c)
+first-dropped {c} ready =
+    ready-changed (lostTo (lostBy (c .waiting) (c .lost))) (lost-small (c .waiting) (c .lost) (ready .fits .lost)) tt (nothing-waits ready)
+
 pub ready-power-up : Ready powerUpState
 unfolding masked wellFormed
 ready-power-up =
     record {
-      fits = record { eight = refl; registers = bytes-zeros 8; address = lit< tt; buffer = lit< tt; waiting = lit< tt; status = lit< tt };
+      fits = record { eight = refl; registers = bytes-zeros 8; address = lit< tt; buffer = lit< tt; waiting = lit< tt; status = lit< tt; lost = lit< tt };
       well-formed = refl;
     }
 
@@ -81,20 +96,21 @@ module _ {c : Chip} (ready : Ready c) where
     ready-prefetched = at-address (nextAddress (c .address)) (next-in (c .address)) (ready-changed (bufferTo (getD vram (c .address) 0)) (bytes (c .address)) tt ready)
 
     pub ready-read : Ready (afterDataRead vram c)
-    ready-read = nothing-waits ready-prefetched
+    ready-read = first-dropped ready-prefetched
 
   pub ready-written : (x : ℕ) → x < 256 → Ready (dataWritten x c)
-  ready-written x h = nothing-waits (at-address (nextAddress (c .address)) (next-in (c .address)) (ready-changed (bufferTo x) h tt ready))
+  ready-written x h = first-dropped (at-address (nextAddress (c .address)) (next-in (c .address)) (ready-changed (bufferTo x) h tt ready))
 
   pub ready-status-read : Ready (afterStatusRead c)
-  ready-status-read = nothing-waits (ready-changed (statusTo (c .status % 32)) (omega arith) tt ready)
+  ready-status-read = first-dropped (ready-changed (statusTo (c .status % 32)) (omega arith) tt ready)
 
   pub ready-ended : Ready (displayEnded c)
   ready-ended = ready-changed (statusTo (setBit 7 (c .status))) (or-lt 8 (c .status) 128 (ready .fits .status) (lit< tt)) tt ready
 
 pub ready-reset : {c : Chip} → Ready c → Ready (wasReset c)
 ready-reset ready =
-    ready-changed (redrawTo true) tt tt (nothing-waits (ready-changed (statusTo 0) (lit< tt) tt (register-set (register-set ready 0 0 (lit< tt)) 1 0 (lit< tt))))
+    let cleared = ready-changed (statusTo 0) (lit< tt) tt (register-set (register-set ready 0 0 (lit< tt)) 1 0 (lit< tt)) in
+    ready-changed (lostTo 0) (lit< tt) tt (ready-changed (redrawTo true) tt tt (nothing-waits cleared))
 
 -- What holds of both holds of the one that is chosen.
 module _ {A : Type 0} (P : A → Type 0) where

@@ -4,7 +4,7 @@ use mathlib.Core.Path.{_≡_, sym, _∙_}
 use mathlib.Core.Bool.{Bool, true, false, not}
 use lib.ListN.{length}
 use borrow.Author.Tests.{not-true, not-false, leb-true}
-use Rattle.chip.specs.State.{wellFormed, masked, byteOf, headTo, inTail, Change, registersTo, addressTo, bufferTo, waitingTo, statusTo, redrawTo, changed, Bytes, Fits}
+use Rattle.chip.specs.State.{wellFormed, masked, byteOf, headTo, inTail, Change, registersTo, addressTo, bufferTo, waitingTo, statusTo, redrawTo, lostTo, changed, Bytes, Fits}
 use Rattle.chip.specs.declared.state.Chip.{Chip}
 use Rattle.chip.proofs.Laws.Ranges.{and-left, and-right}
 
@@ -31,6 +31,7 @@ FitsType (bufferTo b) = b < 256
 FitsType (waitingTo w) = byteOf w < 256
 FitsType (statusTo s) = s < 256
 FitsType (redrawTo m) = Unit {0}
+FitsType (lostTo n) = n < 65536
 
 -- `Fits` as a chain, in the order of the state's fields
 abbrev Chain : Chip → Type 0
@@ -38,10 +39,11 @@ Chain c =
     FitsType (registersTo (c .registers))
     × (FitsType (addressTo (c .address))
     × (FitsType (bufferTo (c .buffer))
-    × (FitsType (waitingTo (c .waiting)) × (FitsType (statusTo (c .status)) × (FitsType (redrawTo (c .redraw)) × Unit {0})))))
+    × (FitsType (waitingTo (c .waiting))
+    × (FitsType (statusTo (c .status)) × (FitsType (redrawTo (c .redraw)) × (FitsType (lostTo (c .lost)) × Unit {0}))))))
 
 chain : {c : Chip} → Fits c → Chain c
-chain f = ((f .eight, f .registers), (f .address, (f .buffer, (f .waiting, (f .status, (tt, tt))))))
+chain f = ((f .eight, f .registers), (f .address, (f .buffer, (f .waiting, (f .status, (tt, (f .lost, tt)))))))
 
 unchained : {c : Chip} → Chain c → Fits c
 unchained p =
@@ -52,6 +54,7 @@ unchained p =
       buffer = p .1 .1 .0;
       waiting = p .1 .1 .1 .0;
       status = p .1 .1 .1 .1 .0;
+      lost = p .1 .1 .1 .1 .1 .1 .0;
     }
 
 -- A change whose value fits its type keeps the others fitting.
@@ -62,3 +65,4 @@ fits-changed (bufferTo b) h f = unchained (inTail (inTail (headTo h)) (chain f))
 fits-changed (waitingTo w) h f = unchained (inTail (inTail (inTail (headTo h))) (chain f))
 fits-changed (statusTo s) h f = unchained (inTail (inTail (inTail (inTail (headTo h)))) (chain f))
 fits-changed (redrawTo m) h f = unchained (inTail (inTail (inTail (inTail (inTail (headTo h))))) (chain f))
+fits-changed (lostTo n) h f = unchained (inTail (inTail (inTail (inTail (inTail (inTail (headTo h)))))) (chain f))

@@ -10,7 +10,6 @@ use mir.Val.{boolByte}
 use borrow.Author.Tests.{eqb-true}
 use Rattle.chip.specs.State.{vramSize, powerUpState}
 use Rattle.chip.specs.Ports.{clearedVram, interruptOn}
-use Rattle.chip.specs.Layout.{decoded}
 use Rattle.chip.specs.declared.state.Chip.{Chip}
 use Rattle.chip.proofs.Laws.Lists.{bytes-zeros}
 use Rattle.chip.proofs.Laws.Refusals.{all-pass}
@@ -18,7 +17,7 @@ use Rattle.chip.proofs.Laws.Ready.{ready-power-up}
 use Rattle.frame.specs.Lines.{lineCount}
 use Rattle.frame.specs.Due.{due, dueCount}
 use Rattle.frame.proofs.Laws.Lines.{bit-small, count-le}
-use Rattle.snapshot.specs.Tests.{stateBytes, vramBytes}
+use Rattle.snapshot.specs.Tests.{stateBytes, vramBytes, heldState}
 use Rattle.snapshot.proofs.Laws.Held.{ready-held, bytes-held}
 use Rattle.snapshot.proofs.Laws.Parts.{length-state, length-vram}
 use Rattle.birdcleft.specs.Calls.{blockEntry, vramEntry, resultThrough, blockThrough, listThrough}
@@ -100,8 +99,8 @@ lawful (Op.readSnapshot s) =
       refused = λ b e. rw e;
       not-entered = λ block b e. by-number _ (rw e);
       entered = λ b fits n e. stores (described (Op.readSnapshot s)) b fits 0 (lit< tt) refl (rw e) refl (λ m. rw m)
-          (λ ok. let p = all-pass (tests (described (Op.readSnapshot s)) b) (refl, (refl, (refl, (refl, (refl, tt))))) ok in rw ok (decoded-eight (stateBytes s) (long-state s (p .1 .0))));
-      effect = λ b h lengths typed p ok. rw ok (sets-mark (decoded (stateBytes s) true) (vramBytes s) refl (ready-held s h (eqb-true _ _ (p .1 .0)) (p .1 .1 .1 .1 .0)) (decoded-redraw (stateBytes s)) (length-vram s (eqb-true _ _ (p .1 .0))) (bytes-held s h));
+          (λ ok. let p = all-pass (tests (described (Op.readSnapshot s)) b) (refl, (refl, (refl, (refl, (refl, tt))))) ok in rw ok (decoded-eight (stateBytes s) 0 (long-state s (p .1 .0))));
+      effect = λ b h lengths typed p ok. rw ok (sets-mark (heldState s) (vramBytes s) refl (ready-held s h (eqb-true _ _ (p .1 .0)) (p .1 .1 .1 .1 .0)) (decoded-redraw (stateBytes s) 0) (length-vram s (eqb-true _ _ (p .1 .0))) (bytes-held s h));
     }
 lawful (Op.writeSnapshot s) =
     record {

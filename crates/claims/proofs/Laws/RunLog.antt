@@ -1,6 +1,7 @@
 -- The laws of the run of a log. It keeps the invariant because the single calls of its records do.
 use Prim.Native.Nat.{ℕ, _+_, _*_, _/_, _%_, _<_}
 use native.Mathlib.Omega.{arith}
+use native.Mathlib.Nat.{mod-add-div}
 use mathlib.Core.Path.{_≡_, refl, sym, ap, subst, _∙_}
 use mathlib.Core.Bool.{Bool, true, false, cond}
 use mathlib.Core.List.{List, [], _∷_}
@@ -18,7 +19,7 @@ use Rattle.chip.proofs.Laws.Lists.{bytes-take}
 use Rattle.chip.proofs.Laws.Ranges.{and-left, and-right}
 use Rattle.chip.proofs.Laws.Ready.{either}
 use Rattle.chip.proofs.Laws.Refusals.{AllPass, all-accepted, is-accepted, differ}
-use Rattle.snapshot.specs.Tests.{pairAt}
+use Rattle.chip.specs.TwoBytes.{lowFirstAt}
 use Rattle.log.specs.Format.{logTrailerAt, recordBytes}
 use Rattle.log.specs.Records.{operationOf, valueAllowed, allowed, allAllowed, recordsOf}
 use Rattle.log.specs.Single.{Target, target, answerBy, vramBy, mapBy, lineBy, answerTo, after}
@@ -152,9 +153,6 @@ module _ (line log outcome : List ℕ) where
   unfolding runEntry resultThrough blockThrough listThrough
   entered-left b e = rw e
 
-  pair : (n : ℕ) → n % 256 + 256 * (n / 256) ≡ n
-  pair n = omega arith
-
   accepted-back : (b : Bench) (e : End) (vram map drawn : List ℕ) → e .found < 256 → length (e .target .chip .registers) ≡ 8 → decodedLeft (leftFromC b (ranOf e) vram map drawn) ≡ leftDirectly b (ranOf e) vram map drawn
   accepted-back b e vram map drawn small eight =
       let both = parts 0 (e .found) small in
@@ -167,7 +165,7 @@ module _ (line log outcome : List ℕ) where
         notes = b .notes;
         reply = record {
           refusal = both .0 i;
-          values = both .1 i ∷ cond (eqb (both .0 i) 0) (pair (e .done) i ∷ pair (e .place) i ∷ []) (0 ∷ 0 ∷ []);
+          values = both .1 i ∷ cond (eqb (both .0 i) 0) (mod-add-div (e .done) 256 i ∷ mod-add-div (e .place) 256 i ∷ []) (0 ∷ 0 ∷ []);
           slices = drawn ∷ [];
         };
       }
@@ -176,7 +174,7 @@ module _ (line log outcome : List ℕ) where
   refused-back b n vram map drawn e eight =
       let block : List ℕ = blockOf (b .chip) in
       let both = parts (numberOf n) 0 (lit< tt) in
-      let numbers : List ℕ = pairAt (reported (refusedRun (b .chip) n) outcome) 0 ∷ pairAt (reported (refusedRun (b .chip) n) outcome) 2 ∷ [] in
+      let numbers : List ℕ = lowFirstAt (reported (refusedRun (b .chip) n) outcome) 0 ∷ lowFirstAt (reported (refusedRun (b .chip) n) outcome) 2 ∷ [] in
       let state : chipOf (cond (isAccepted n) block block) ≡ b .chip = ap (λ (a : Bool). chipOf (cond a block block)) e ∙ chip-block (b .chip) eight in
       let none : cond (eqb ((numberOf n * 256 + 0) / 256) 0) numbers (0 ∷ 0 ∷ []) ≡ 0 ∷ 0 ∷ [] =
       ap (λ (k : ℕ). cond (eqb k 0) numbers (0 ∷ 0 ∷ [])) (both .0) ∙ ap (λ (a : Bool). cond a numbers (0 ∷ 0 ∷ [])) e in

@@ -1,12 +1,12 @@
 -- States that are well-formed and whose values fit their types, after a draw and from a snapshot.
 use Prim.Native.Nat.{ℕ, _≤_, _<_}
 use mathlib.Core.Path.{_≡_, refl}
-use mathlib.Core.Bool.{Bool, true, false, cond}
+use mathlib.Core.Bool.{true, false}
 use mathlib.Core.List.{List, [], _∷_}
-use lib.ListN.{length, getD}
+use lib.ListN.{length}
 use lib.Seq.{length-take-le}
 use Rattle.chip.specs.State.{statusTo, redrawTo}
-use Rattle.chip.specs.Layout.{illFormedState, waitingValid, stateIn, decoded}
+use Rattle.chip.specs.Layout.{decoded}
 use Rattle.chip.specs.declared.state.Chip.{Chip}
 use Rattle.chip.proofs.Laws.Ready.{Ready, ready-changed}
 use Rattle.scanline.specs.Notes.{statusAfter, statusThrough}
@@ -23,20 +23,12 @@ module _ {c : Chip} (ready : Ready c) where
   pub ready-drawn : (notes : List ℕ) → Ready (drawnState c notes)
   ready-drawn notes = ready-changed (redrawTo false) tt tt (ready-changed (statusTo (statusThrough (c .status) notes)) (through-byte (c .status) notes (ready .fits .status)) tt ready)
 
--- The state that a snapshot's 14 bytes hold has eight registers, and its redraw mark set.
-module _ (l : List ℕ) where
-  pub decoded-eight : 8 ≤ length l → length (decoded l true .registers) ≡ 8
+-- The state that 14 bytes hold with the redraw mark set: it has eight registers, and the mark is set.
+module _ (l : List ℕ) (n : ℕ) where
+  pub decoded-eight : 8 ≤ length l → length (decoded l true n .registers) ≡ 8
   unfolding decoded
-  decoded-eight long = by (waitingValid (getD l 11 0) (getD l 12 0))
-    where
-      by : (x : Bool) → length (cond x (stateIn l true) illFormedState .registers) ≡ 8
-      by true = length-take-le 8 l long
-      by false = refl
+  decoded-eight long = length-take-le 8 l long
 
-  pub decoded-redraw : decoded l true .redraw ≡ true
+  pub decoded-redraw : decoded l true n .redraw ≡ true
   unfolding decoded
-  decoded-redraw = by (waitingValid (getD l 11 0) (getD l 12 0))
-    where
-      by : (x : Bool) → cond x (stateIn l true) illFormedState .redraw ≡ true
-      by true = refl
-      by false = refl
+  decoded-redraw = refl

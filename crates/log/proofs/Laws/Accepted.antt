@@ -1,7 +1,7 @@
 -- A good log of bytes: it is the log of its record bytes.
-use Prim.Native.Nat.{ℕ, _+_, _/_, _%_}
+use Prim.Native.Nat.{ℕ, _+_}
 use native.Mathlib.Omega.{arith}
-use mathlib.Core.Path.{_≡_, sym, ap, _∙_}
+use mathlib.Core.Path.{_≡_, sym, ap, ap₂, _∙_}
 use mathlib.Core.List.{List, [], _∷_, _++_}
 use lib.ListN.{length, getD, drop, length-drop, take-append-drop}
 use lib.Seq.{getD-drop}
@@ -9,8 +9,9 @@ use borrow.Author.Tests.{eqb-true}
 use Rattle.chip.specs.State.{Bytes}
 use Rattle.chip.specs.Lists.{tabulate}
 use Rattle.chip.proofs.Laws.Lists.{listed}
-use Rattle.snapshot.specs.Format.{lowFirst, checksum}
-use Rattle.snapshot.specs.Tests.{pairAt}
+use Rattle.chip.specs.TwoBytes.{lowFirst, lowFirstAt}
+use Rattle.chip.proofs.Laws.TwoBytes.{low-first-back}
+use Rattle.snapshot.specs.Format.{checksum}
 use Rattle.log.specs.Format.{logTrailerOf, logOf, logTrailerAt, recordBytes}
 use Rattle.log.specs.Tests.{distanceRight, logSumRight}
 use Rattle.log.proofs.Laws.Form.{sized, length-record-bytes}
@@ -30,14 +31,11 @@ module _ (log : List ℕ) (bytes : Bytes log) (g : Good log) where
   unfolding distanceRight logSumRight tabulate
   trailer-kept =
       let s = sized (length log) (g .size) in
-      let distance = eqb-true (pairAt log n) n (g .distance) in
-      let sum = eqb-true (pairAt log (n + 2)) (checksum (recordBytes log)) (g .total) in
-      let b₀ : n % 256 ≡ at n = omega (arith, bytes n, bytes (n + 1)) in
-      let b₁ : n / 256 ≡ at (n + 1) = omega (arith, bytes n, bytes (n + 1)) in
-      let b₂ : checksum (recordBytes log) % 256 ≡ at (n + 2) = omega (arith, bytes (n + 2), bytes (n + 2 + 1)) in
-      let b₃ : checksum (recordBytes log) / 256 ≡ at (n + 2 + 1) = omega (arith, bytes (n + 2), bytes (n + 2 + 1)) in
-      ap (λ (m : ℕ). lowFirst m ++ lowFirst (checksum (recordBytes log))) (length-record-bytes log)
-      ∙ (λ i. (b₀ ∙ there 0 (omega arith)) i ∷ (b₁ ∙ there 1 (omega arith)) i ∷ (b₂ ∙ there 2 (omega arith)) i ∷ (b₃ ∙ there 3 (omega arith)) i ∷ [])
+      let distance = eqb-true (lowFirstAt log n) n (g .distance) in
+      let sum = eqb-true (lowFirstAt log (n + 2)) (checksum (recordBytes log)) (g .total) in
+      ap₂ (λ (m t : ℕ). lowFirst m ++ lowFirst t) (length-record-bytes log ∙ sym distance) (sym sum)
+      ∙ ap₂ _++_ (low-first-back log bytes n) (low-first-back log bytes (n + 2))
+      ∙ (λ i. there 0 {m = n} (omega arith) i ∷ there 1 {m = n + 1} (omega arith) i ∷ there 2 {m = n + 2} (omega arith) i ∷ there 3 {m = n + 2 + 1} (omega arith) i ∷ [])
       ∙ sym (listed 4 (drop n log) (rw length-drop (omega arith)))
 
   pub log-back : logOf (recordBytes log) ≡ log

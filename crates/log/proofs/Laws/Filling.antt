@@ -6,7 +6,8 @@ use mathlib.Core.List.{List, [], _++_, append-assoc}
 use lib.ListN.{length, take, length-append}
 use lib.Seq.{take-all}
 use Rattle.chip.specs.Lists.{putAt}
-use Rattle.snapshot.specs.Format.{lowFirst, checksum}
+use Rattle.chip.specs.TwoBytes.{lowFirst}
+use Rattle.snapshot.specs.Format.{checksum}
 use Rattle.snapshot.proofs.Laws.Filling.{put-front}
 use Rattle.log.specs.Format.{logOf}
 

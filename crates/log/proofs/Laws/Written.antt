@@ -1,17 +1,17 @@
 -- The log of record bytes: where its parts stand, and that it is a good log where the records are allowed.
-use Prim.Native.Nat.{ℕ, _+_, _*_}
+use Prim.Native.Nat.{ℕ, _+_}
 use native.Mathlib.Omega.{arith}
-use native.Mathlib.Nat.{mod-add-div}
-use mathlib.Core.Path.{_≡_, refl, ap, ap₂, _∙_}
+use mathlib.Core.Path.{_≡_, refl, ap, _∙_}
 use mathlib.Core.Bool.{true}
 use mathlib.Core.List.{List}
 use lib.ListN.{length, getD, take, length-append}
 use lib.Seq.{take-at, getD-append-add}
 use borrow.Author.Tests.{eq-eqb}
 use Rattle.chip.specs.State.{Bytes}
-use Rattle.snapshot.specs.Format.{lowFirst, checksum}
-use Rattle.snapshot.specs.Tests.{pairAt}
-use Rattle.snapshot.proofs.Laws.Bytes.{both, bytes-low-first}
+use Rattle.chip.specs.TwoBytes.{lowFirst, lowFirstAt}
+use Rattle.chip.proofs.Laws.TwoBytes.{low-first-is, bytes-low-first}
+use Rattle.snapshot.specs.Format.{checksum}
+use Rattle.snapshot.proofs.Laws.Bytes.{both}
 use Rattle.log.specs.Format.{logTrailerOf, logOf, logTrailerAt, recordBytes}
 use Rattle.log.specs.Records.{recordsOf, allAllowed}
 use Rattle.log.specs.Tests.{distanceRight, logSumRight}
@@ -44,14 +44,14 @@ module _ (records : List ℕ) where
   distance-right : distanceRight log ≡ true
   unfolding distanceRight
   distance-right = rw trailer-at
-      (eq-eqb (pairAt log n) n
-      (ap₂ (λ (low high : ℕ). low + 256 * high) (tail 0 (omega arith)) (tail 1 (omega arith)) ∙ mod-add-div n 256))
+      (eq-eqb (lowFirstAt log n) n
+      (low-first-is log n n (tail 0 (omega arith)) (tail 1 (omega arith))))
 
   sum-right : logSumRight log ≡ true
   unfolding logSumRight
   sum-right = rw (trailer-at, records-back)
-      (eq-eqb (pairAt log (n + 2)) (checksum records)
-      (ap₂ (λ (low high : ℕ). low + 256 * high) (tail 2 (omega arith)) (tail 3 (omega arith)) ∙ mod-add-div (checksum records) 256))
+      (eq-eqb (lowFirstAt log (n + 2)) (checksum records)
+      (low-first-is log (n + 2) (checksum records) (tail 2 (omega arith)) (tail 3 (omega arith))))
 
   pub good : {out : List ℕ} → Writable records out → Good log
   good w =

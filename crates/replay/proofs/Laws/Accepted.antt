@@ -9,7 +9,6 @@ use Rattle.chip.specs.Lists.{putAt}
 use Rattle.chip.specs.State.{Bytes, wellFormed, powerUpState}
 use Rattle.chip.specs.Map.{mapSize}
 use Rattle.chip.specs.Ports.{clearedVram}
-use Rattle.chip.specs.Layout.{decoded}
 use Rattle.chip.specs.declared.refusal.Answer.{Answer}
 use Rattle.chip.specs.declared.refusal.Refusal.{Refusal}
 use Rattle.chip.specs.declared.refusal.Refusal.the-variants.{Accepted}
@@ -18,7 +17,7 @@ use Rattle.chip.proofs.Laws.Ready.{Ready}
 use Rattle.chip.proofs.Laws.Refusals.{the-new}
 use Rattle.scanline.specs.Calls.{lineSize}
 use Rattle.snapshot.specs.Format.{snapshotOf}
-use Rattle.snapshot.specs.Tests.{stateBytes, vramBytes}
+use Rattle.snapshot.specs.Tests.{vramBytes, heldState}
 use Rattle.snapshot.specs.Calls.{readSnapshot, readVram, writeRefusal, written}
 use Rattle.snapshot.proofs.Laws.Bytes.{bytes-part}
 use Rattle.snapshot.proofs.Laws.Held.{ready-held, bytes-held}
@@ -62,8 +61,8 @@ module _ (input : List ℕ) (ok : snapshotRefusal input ≡ Accepted) where
   part-readable : Readable clearedVram (snapshotPart input)
   part-readable = accepted-readable clearedVram (snapshotPart input) ok
 
-  start-state : startState input ≡ decoded (stateBytes (snapshotPart input)) true
-  start-state = the-new ok (decoded (stateBytes (snapshotPart input)) true) powerUpState
+  start-state : startState input ≡ heldState (snapshotPart input)
+  start-state = the-new ok (heldState (snapshotPart input)) powerUpState
 
   start-vram : startVram input ≡ vramBytes (snapshotPart input)
   start-vram = the-new ok (vramBytes (snapshotPart input)) clearedVram

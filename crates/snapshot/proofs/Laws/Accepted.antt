@@ -1,5 +1,5 @@
 -- A file that reading accepts: it is the snapshot of what it holds.
-use Prim.Native.Nat.{ℕ, _+_, _-_, _/_, _%_}
+use Prim.Native.Nat.{ℕ, _+_, _-_}
 use native.Mathlib.Omega.{arith}
 use mathlib.Core.Path.{_≡_, sym, ap, ap₂, _∙_}
 use mathlib.Core.Bool.{Bool, true, _&&_}
@@ -9,14 +9,16 @@ use lib.ListN.{getD, take, drop, length-drop, take-append-drop}
 use lib.Seq.{take-all, take-add, getD-drop}
 use borrow.Author.Tests.{eqb-true}
 use Rattle.chip.specs.State.{Bytes}
-use Rattle.chip.specs.Layout.{encoded, decoded}
+use Rattle.chip.specs.TwoBytes.{lowFirst, lowFirstAt}
+use Rattle.chip.specs.Layout.{encoded}
 use Rattle.chip.specs.declared.state.Chip.{Chip}
 use Rattle.chip.specs.Lists.{tabulate}
 use Rattle.chip.proofs.Laws.Lists.{take-tabulate, listed}
 use Rattle.chip.proofs.Laws.Ranges.{and-left, and-right}
+use Rattle.chip.proofs.Laws.TwoBytes.{low-first-back}
 use Rattle.chip.proofs.Laws.Layout.{encoded-decoded}
-use Rattle.snapshot.specs.Format.{lowFirst, pointers, checksum, snapshotOf}
-use Rattle.snapshot.specs.Tests.{trailerAt, stateBytes, vramBytes, pairAt, pointsBack, sumRight}
+use Rattle.snapshot.specs.Format.{pointers, checksum, snapshotOf}
+use Rattle.snapshot.specs.Tests.{trailerAt, stateBytes, vramBytes, heldState, pointsBack, sumRight}
 use Rattle.snapshot.proofs.Laws.Bytes.{bytes-part}
 use Rattle.snapshot.proofs.Laws.Parts.{regroup, length-state}
 use Rattle.snapshot.proofs.Laws.Refusals.{Readable}
@@ -34,22 +36,22 @@ module _ (file : List ℕ) (bytes : Bytes file) {old : List ℕ} (r : Readable o
 
   -- the state that the file holds
   abbrev held : Chip
-  held = decoded (stateBytes file) true
+  held = heldState file
 
   state-kept : encoded held ≡ stateBytes file
   unfolding stateBytes
   state-kept =
       let long = length-state file (r .whole) in
-      encoded-decoded (stateBytes file) (bytes-part (trailerAt file - 14) 14 file bytes) true (r .holds) (omega arith)
+      encoded-decoded (stateBytes file) (bytes-part (trailerAt file - 14) 14 file bytes) true 0 (r .holds) (omega arith)
       ∙ take-all 14 (stateBytes file) (omega arith)
 
   -- the signature and the distances are the trailer's first six bytes
   pointers-kept : take 6 (drop 16398 file) ≡ pointers
   unfolding pointsBack tabulate
   pointers-kept =
-      let q = all-four (eqb (at 16398) 0x56) (eqb (at 16399) 0x31) (eqb (pairAt file 16400) 14) (eqb (pairAt file 16402) 16398) (rw (r .whole) at (r .points)) in
-      let block = eqb-true (pairAt file 16400) 14 (q .2) in
-      let vram = eqb-true (pairAt file 16402) 16398 (q .3) in
+      let q = all-four (eqb (at 16398) 0x56) (eqb (at 16399) 0x31) (eqb (lowFirstAt file 16400) 14) (eqb (lowFirstAt file 16402) 16398) (rw (r .whole) at (r .points)) in
+      let block = eqb-true (lowFirstAt file 16400) 14 (q .2) in
+      let vram = eqb-true (lowFirstAt file 16402) 16398 (q .3) in
       let b₀ = eqb-true (at 16398) 0x56 (q .0) in
       let b₁ = eqb-true (at 16399) 0x31 (q .1) in
       let b₂ : at 16400 ≡ 14 = omega (arith, bytes 16400, bytes 16401) in
@@ -72,10 +74,10 @@ module _ (file : List ℕ) (bytes : Bytes file) {old : List ℕ} (r : Readable o
   sum-kept : lowFirst (checksum (take 16404 file)) ≡ drop 16404 file
   unfolding sumRight tabulate
   sum-kept =
-      let total = eqb-true (pairAt file 16404) (checksum (take 16404 file)) (rw (r .whole) at (r .total)) in
-      let low : checksum (take 16404 file) % 256 ≡ at 16404 = omega (arith, bytes 16404, bytes 16405) in
-      let high : checksum (take 16404 file) / 256 ≡ at 16405 = omega (arith, bytes 16404, bytes 16405) in
-      (λ i. (low ∙ sym (getD-drop 16404 file 0 0)) i ∷ (high ∙ sym (getD-drop 16404 file 1 0)) i ∷ [])
+      let total = eqb-true (lowFirstAt file 16404) (checksum (take 16404 file)) (rw (r .whole) at (r .total)) in
+      ap lowFirst (sym total)
+      ∙ low-first-back file bytes 16404
+      ∙ (λ i. sym (getD-drop 16404 file 0 0) i ∷ sym (getD-drop 16404 file 1 0) i ∷ [])
       ∙ sym (listed 2 (drop 16404 file) (rw length-drop (omega arith)))
 
   pub file-back : snapshotOf held (vramBytes file) ≡ file

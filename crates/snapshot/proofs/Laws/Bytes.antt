@@ -1,5 +1,5 @@
 -- Lists of bytes.
-use Prim.Native.Nat.{ℕ, zero, suc, _+_, _/_, _%_, _<_}
+use Prim.Native.Nat.{ℕ, zero, suc, _+_, _<_}
 use native.Mathlib.Omega.{arith}
 use mathlib.Core.Path.{subst⁻¹}
 use mathlib.Core.List.{List, [], _∷_, _++_}
@@ -7,12 +7,14 @@ use lib.Dec.{lit<}
 use lib.ListN.{take, drop}
 use lib.Seq.{getD-drop}
 use Rattle.chip.specs.State.{Bytes, Fits, flagOf, byteOf}
+use Rattle.chip.specs.TwoBytes.{lowFirst}
 use Rattle.chip.specs.Layout.{encoded}
 use Rattle.chip.specs.declared.state.Chip.{Chip}
 use Rattle.chip.specs.declared.state.Waiting.{Waiting}
 use Rattle.chip.specs.declared.state.Waiting.the-variants.{Nothing, First}
 use Rattle.chip.proofs.Laws.Lists.{bytes-take}
-use Rattle.snapshot.specs.Format.{lowFirst, trailerOf, snapshotOf}
+use Rattle.chip.proofs.Laws.TwoBytes.{bytes-low-first}
+use Rattle.snapshot.specs.Format.{trailerOf, snapshotOf}
 
 -- that each number of a list is a byte
 AllBytes : List ℕ → Type 0
@@ -33,11 +35,6 @@ both (x ∷ p) q bp bq (suc i) = both p q (λ j. bp (suc j)) bq i
 bytes-drop : (n : ℕ) (l : List ℕ) → Bytes l → Bytes (drop n l)
 bytes-drop n l b i = subst⁻¹ (λ (x : ℕ). x < 256) (getD-drop n l i 0) (b (n + i))
 
--- a number that fits two bytes, as these
-pub bytes-low-first : (n : ℕ) → n < 65536 → Bytes (lowFirst n)
-unfolding AllBytes
-bytes-low-first n h = each (lowFirst n) (omega arith, (omega arith, tt))
-
 -- a part of a list of bytes
 pub bytes-part : (k n : ℕ) (l : List ℕ) → Bytes l → Bytes (take n (drop k l))
 bytes-part k n l b = bytes-take n (drop k l) (bytes-drop k l b)
@@ -49,9 +46,10 @@ flag-byte (First a) = lit< tt
 bytes-encoded : (c : Chip) → Fits c → Bytes (encoded c)
 unfolding AllBytes
 bytes-encoded c fits =
-    let rest : List ℕ = c .address % 256 ∷ c .address / 256 ∷ c .buffer ∷ flagOf (c .waiting) ∷ byteOf (c .waiting) ∷ c .status ∷ [] in
-    both (c .registers) rest (fits .registers)
-    (each rest (omega arith, (omega arith, (fits .buffer, (flag-byte (c .waiting), (fits .waiting, (fits .status, tt)))))))
+    let rest : List ℕ = c .buffer ∷ flagOf (c .waiting) ∷ byteOf (c .waiting) ∷ c .status ∷ [] in
+    both (c .registers) (lowFirst (c .address) ++ rest) (fits .registers)
+    (both (lowFirst (c .address)) rest (bytes-low-first (c .address) (fits .address))
+    (each rest (fits .buffer, (flag-byte (c .waiting), (fits .waiting, (fits .status, tt))))))
 
 -- A snapshot consists of bytes.
 pub bytes-snapshot : (c : Chip) (vram : List ℕ) → Fits c → Bytes vram → Bytes (snapshotOf c vram)

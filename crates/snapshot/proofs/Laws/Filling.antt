@@ -6,11 +6,12 @@ use mathlib.Core.List.{List, [], _++_, append-assoc}
 use lib.ListN.{length, take, drop, length-append}
 use lib.Seq.{take-at, take-all}
 use Rattle.chip.specs.Lists.{putAt}
+use Rattle.chip.specs.TwoBytes.{lowFirst}
 use Rattle.chip.specs.Layout.{encoded}
 use Rattle.chip.specs.declared.state.Chip.{Chip}
 use Rattle.chip.proofs.Laws.Layout.{length-encoded}
 use Rattle.snapshot.proofs.Laws.Parts.{regroup, before-trailer, before-sum}
-use Rattle.snapshot.specs.Format.{lowFirst, pointers, checksum, summed, snapshotOf}
+use Rattle.snapshot.specs.Format.{pointers, checksum, summed, snapshotOf}
 
 -- Bytes that are put in right behind a front of the list make the front longer.
 pub put-front : (at : ℕ) (bytes l p : List ℕ) {n : ℕ} → take at l ≡ p → length p ≡ at → length bytes ≡ n → take (at + n) (putAt at bytes l) ≡ p ++ bytes

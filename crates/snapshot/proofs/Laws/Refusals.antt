@@ -6,12 +6,11 @@ use mathlib.Core.List.{List}
 use lib.ListN.{length}
 use borrow.Author.Tests.{eqb-true, eq-eqb}
 use Rattle.chip.specs.State.{wellFormed}
-use Rattle.chip.specs.Layout.{decoded}
 use Rattle.chip.specs.Refusals.{isAccepted}
 use Rattle.chip.specs.declared.state.Chip.{Chip}
 use Rattle.chip.specs.declared.refusal.Refusal.the-variants.{Accepted}
 use Rattle.chip.proofs.Laws.Refusals.{all-pass, all-accepted}
-use Rattle.snapshot.specs.Tests.{stateBytes, pointsBack, sumRight}
+use Rattle.snapshot.specs.Tests.{heldState, pointsBack, sumRight}
 use Rattle.snapshot.specs.Calls.{writeTests, writeRefusal, readTests, readRefusal}
 
 -- What the tests of reading show of VRAM and of the file.
@@ -20,7 +19,7 @@ pub record Readable (vram s : List ℕ) : Type 0 where
   pub whole : length s ≡ 16406
   pub points : pointsBack s ≡ true
   pub total : sumRight s ≡ true
-  pub holds : wellFormed (decoded (stateBytes s) true) ≡ true
+  pub holds : wellFormed (heldState s) ≡ true
 
 pub write-accepted : (c : Chip) (vram out : List ℕ) → length vram ≡ 16384 → length out ≡ 16406 → wellFormed c ≡ true → writeRefusal c vram out ≡ Accepted
 write-accepted c vram out hv ho ok = all-accepted (writeTests c vram out) (eq-eqb _ _ hv, (ok, (eq-eqb _ _ ho, tt)))

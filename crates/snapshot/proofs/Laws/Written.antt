@@ -1,18 +1,19 @@
 -- The snapshot of a state and VRAM: where its parts stand, and that reading accepts it.
-use Prim.Native.Nat.{ℕ, _+_, _*_}
-use native.Mathlib.Nat.{mod-add-div}
-use mathlib.Core.Path.{_≡_, sym, ap, ap₂, _∙_}
+use Prim.Native.Nat.{ℕ, _+_}
+use mathlib.Core.Path.{_≡_, sym, ap, _∙_}
 use mathlib.Core.Bool.{true}
 use mathlib.Core.List.{List, _++_, append-assoc}
 use lib.ListN.{length, getD, take, length-append}
 use lib.Seq.{take-at, drop-at, getD-append-add}
 use borrow.Author.Tests.{eq-eqb}
 use Rattle.chip.specs.State.{wellFormed}
+use Rattle.chip.specs.TwoBytes.{lowFirst, lowFirstAt}
 use Rattle.chip.specs.Layout.{encoded, decoded}
 use Rattle.chip.specs.declared.state.Chip.{Chip}
+use Rattle.chip.proofs.Laws.TwoBytes.{low-first-is}
 use Rattle.chip.proofs.Laws.Layout.{length-encoded, well-formed-encoded}
-use Rattle.snapshot.specs.Format.{lowFirst, pointers, checksum, summed, trailerOf, snapshotOf}
-use Rattle.snapshot.specs.Tests.{pairAt, stateBytes, vramBytes, pointsBack, sumRight}
+use Rattle.snapshot.specs.Format.{pointers, checksum, summed, trailerOf, snapshotOf}
+use Rattle.snapshot.specs.Tests.{stateBytes, vramBytes, pointsBack, sumRight}
 use Rattle.snapshot.proofs.Laws.Parts.{regroup, before-trailer, before-sum}
 use Rattle.snapshot.proofs.Laws.Refusals.{Readable}
 
@@ -57,8 +58,8 @@ module _ (c : Chip) (eight : length (c .registers) ≡ 8) (vram : List ℕ) (lon
   sums : sumRight file ≡ true
   unfolding sumRight
   sums = rw length-snapshot
-      (eq-eqb (pairAt file 16404) (checksum (take 16404 file))
-      (ap₂ (λ (low high : ℕ). low + 256 * high) (tail 6) (tail 7) ∙ mod-add-div total 256 ∙ sym (ap checksum summed-back)))
+      (eq-eqb (lowFirstAt file 16404) (checksum (take 16404 file))
+      (low-first-is file 16404 total (tail 6) (tail 7) ∙ sym (ap checksum summed-back)))
 
   pub readable : wellFormed c ≡ true → (old : List ℕ) → length old ≡ 16384 → Readable old file
   readable ok old room =
@@ -67,5 +68,5 @@ module _ (c : Chip) (eight : length (c .registers) ≡ 8) (vram : List ℕ) (lon
         whole = length-snapshot;
         points = points;
         total = sums;
-        holds = ap (λ (b : List ℕ). wellFormed (decoded b true)) state-back ∙ well-formed-encoded c eight true ∙ ok;
+        holds = ap (λ (b : List ℕ). wellFormed (decoded b true 0)) state-back ∙ well-formed-encoded c eight true 0 ∙ ok;
       }

@@ -2,19 +2,18 @@
 use Prim.Native.Nat.{ℕ, suc}
 use mathlib.Core.Path.{_≡_, refl, sym, ap, _∙_}
 use mathlib.Core.Bool.{Bool, true, false, cond}
-use mathlib.Core.List.{List, [], _∷_}
+use mathlib.Core.List.{List}
 use lib.ListN.{length, length-replicate}
 use borrow.Author.Tests.{eq-eqb}
 use Rattle.chip.specs.State.{powerUpState, wellFormed}
 use Rattle.chip.specs.Ports.{clearedVram}
-use Rattle.chip.specs.Layout.{decoded}
 use Rattle.chip.specs.Refusals.{numberOf, isAccepted, ifAccepted, vramTest}
 use Rattle.chip.specs.declared.state.Chip.{Chip}
 use Rattle.chip.specs.declared.refusal.Refusal.{Refusal}
 use Rattle.chip.specs.declared.refusal.Refusal.the-variants.{Accepted}
 use Rattle.chip.proofs.Laws.Refusals.{passed, is-accepted}
-use Rattle.snapshot.specs.Tests.{stateBytes, vramBytes, sizeTest, trailerTest, sumTest, contentsTest}
-use Rattle.snapshot.specs.Calls.{readRefusal, readSnapshot, readVram}
+use Rattle.snapshot.specs.Tests.{vramBytes, heldState}
+use Rattle.snapshot.specs.Calls.{fileTests, readRefusal, readSnapshot, readVram}
 use Rattle.snapshot.proofs.Laws.Refusals.{accepted-readable}
 use Rattle.snapshot.proofs.Laws.Parts.{length-vram}
 use Rattle.text.specs.Lines.{refusedText}
@@ -24,15 +23,15 @@ use Rattle.text.proofs.Laws.Pieces.{wholly, last-step}
 
 same-refusal : (vram file : List ℕ) → length vram ≡ 16384 → readRefusal vram file ≡ readRefusal clearedVram file
 same-refusal vram file full =
-    passed (vramTest vram) (sizeTest file ∷ trailerTest file ∷ sumTest file ∷ contentsTest file ∷ []) (eq-eqb (length vram) 16384 full)
-    ∙ sym (passed (vramTest clearedVram) (sizeTest file ∷ trailerTest file ∷ sumTest file ∷ contentsTest file ∷ []) (eq-eqb (length clearedVram) 16384 (length-replicate {A = ℕ} 16384 0)))
+    passed (vramTest vram) (fileTests file) (eq-eqb (length vram) 16384 full)
+    ∙ sym (passed (vramTest clearedVram) (fileTests file) (eq-eqb (length clearedVram) 16384 (length-replicate {A = ℕ} 16384 0)))
 
 -- a file that is accepted is shown by the state and VRAM that it holds, and for another the line of the refusal is written
 module _ (shown : Chip → List ℕ → List ℕ) (vram file : List ℕ) (full : length vram ≡ 16384) where
-  output-shown : readRefusal vram file ≡ Accepted → outputOf shown file ≡ shown (decoded (stateBytes file) true) (vramBytes file)
+  output-shown : readRefusal vram file ≡ Accepted → outputOf shown file ≡ shown (heldState file) (vramBytes file)
   unfolding outputOf
   output-shown e =
-      ap (λ (q : Refusal). ifAccepted q (shown (ifAccepted q (decoded (stateBytes file) true) powerUpState) (ifAccepted q (vramBytes file) clearedVram)) (refusedText (numberOf q)))
+      ap (λ (q : Refusal). ifAccepted q (shown (ifAccepted q (heldState file) powerUpState) (ifAccepted q (vramBytes file) clearedVram)) (refusedText (numberOf q)))
       (sym (same-refusal vram file full) ∙ e)
 
   output-refused : isAccepted (readRefusal vram file) ≡ false → outputOf shown file ≡ refusedText (numberOf (readRefusal vram file))
@@ -52,7 +51,7 @@ module _ {W : Type 0} (step : List ℕ → W → Step W) (start : Refusal → Ch
     where
       by : (b : Bool) → isAccepted (readRefusal vram file) ≡ b → stepsFrom (step (readVram vram file)) (suc n) (start (readRefusal vram file) (readSnapshot powerUpState vram file .chip)) ≡ wholly (outputOf shown file)
       by true e =
-          let held : Chip = decoded (stateBytes file) true in
+          let held : Chip = heldState file in
           let ok : readRefusal vram file ≡ Accepted = is-accepted (readRefusal vram file) e in
           let r = accepted-readable vram file ok in
           ap (λ (q : Refusal). stepsFrom (step (ifAccepted q (vramBytes file) vram)) (suc n) (start q (ifAccepted q held powerUpState))) ok

@@ -4,7 +4,7 @@ use denote.Ref.{now}
 use borrow.Author.Tests.{eq-eqb, ne-eqb}
 use borrow.Author.Needs.{needs}
 use Rattle.chip.specs.Lists.{putAt}
-use Rattle.snapshot.specs.Format.{lowFirst}
+use Rattle.chip.specs.TwoBytes.{lowFirst}
 use Rattle.birdcleft.proofs.Laws.{two-numbers}
 use Rattle.birdcleft.proofs.logs.report.Statement.{statement}
 use Rattle.birdcleft.proofs.logs.report.Tie as tie

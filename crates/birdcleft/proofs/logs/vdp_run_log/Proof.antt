@@ -2,7 +2,7 @@
 use mathlib.Core.Path.{ap, _∙_}
 use borrow.Author.Needs.{needs}
 use Rattle.log.specs.Run.{answerOf}
-use Rattle.birdcleft.proofs.Laws.{lengths, at-entry, run-fifteen, outcome-four, direct-result, direct-block, direct-list}
+use Rattle.birdcleft.proofs.Laws.{lengths, at-entry, run-seventeen, outcome-four, direct-result, direct-block, direct-list}
 use Rattle.birdcleft.proofs.logs.vdp_run_log.Statement.{statement}
 use Rattle.birdcleft.proofs.logs.vdp_run_log.Tie as tie
 
@@ -14,7 +14,7 @@ report-requires c κs =
 finish-requires : tie.Need-finish-requires
 finish-requires c κs =
     let e = c .before .before .before .before .before .before .before .before .before .before .before .before .before .before .before .before .before .before in
-    run-fifteen _ _ _ (e .before .run-entry .ensures) (e .if1 .left)
+    run-seventeen _ _ _ (e .before .run-entry .ensures) (e .if1 .left)
 
 returns-2 : tie.Need-returns-2
 returns-2 c =

@@ -12,11 +12,11 @@ use Rattle.log.proofs.form.sum_right.Tie as tie
 sub-trailer : tie.Need-sub-trailer
 sub-trailer c = let s = sized _ (c .before .pre) in omega arith
 
-add-pair-at : tie.Need-add-pair-at
-add-pair-at c = search needs
+add-low-first-at : tie.Need-add-low-first-at
+add-low-first-at c = search needs
 
-pair-at-requires : tie.Need-pair-at-requires
-pair-at-requires c κs = let s = sized _ (c .before .pre) in omega arith
+low-first-at-requires : tie.Need-low-first-at-requires
+low-first-at-requires c κs = let s = sized _ (c .before .pre) in omega arith
 
 slice-aggregate-checksum : tie.Need-slice-aggregate-checksum
 slice-aggregate-checksum c = sym (length-take-le _ _ (omega arith))
@@ -26,7 +26,7 @@ checksum-requires c κs = search needs
 
 returns : tie.Need-returns
 unfolding logSumRight recordBytes
-returns c = simp (c .checksum .ensures, c .before .before .pair-at .ensures)
+returns c = simp (c .checksum .ensures, c .before .before .low-first-at .ensures)
 
 pub sum-right-spec : {M : Type 1} → statement M
-sum-right-spec = tie.close (tie.spec sub-trailer add-pair-at pair-at-requires slice-aggregate-checksum checksum-requires returns)
+sum-right-spec = tie.close (tie.spec sub-trailer add-low-first-at low-first-at-requires slice-aggregate-checksum checksum-requires returns)

@@ -58,11 +58,15 @@ add-done c = search needs
 differs-requires : tie.Need-differs-requires Inv-loop μ-loop
 differs-requires c κs = search needs
 
+-- what the caller owes; the search does not come so far back
+few : (c : tie.At-loop Inv-loop μ-loop) → length (now (c .before .before .before .before .before .args .records)) ≤ 40000
+few c = c .before .before .before .before .before .pre
+
 cast-t30 : tie.Need-cast-t30 Inv-loop μ-loop
-cast-t30 c = search needs
+cast-t30 c = omega (arith, few (c .before .before .before .before .before .before .before .before .before .before .before .before .before .before .before .before .before .before))
 
 cast-t31 : tie.Need-cast-t31 Inv-loop μ-loop
-cast-t31 c = search needs
+cast-t31 c = omega (arith, few (c .before .before .before .before .before .before .before .before .before .before .before .before .before .before .before .before .before .before))
 
 same-length : tie.Need-same-length Inv-loop μ-loop
 same-length c = search needs

@@ -65,13 +65,13 @@ fourteen c =
 decode-requires : tie.Need-decode-requires
 decode-requires c κs = fourteen c
 
-next : (c : tie.After-decode) → c .decode .result ≡ decoded (stateBytes (now (c .before .before .before .before .before .before .before .before .before .before .args .snapshot))) true
-next c = c .decode .ensures ∙ ap (λ (b : List ℕ). decoded b true) (c .before .state-bytes .ensures)
+next : (c : tie.After-decode) → c .decode .result ≡ decoded (stateBytes (now (c .before .before .before .before .before .before .before .before .before .before .args .snapshot))) true 0
+next c = c .decode .ensures ∙ ap (λ (b : List ℕ). decoded b true 0) (c .before .state-bytes .ensures)
 
 is-well-formed-requires : tie.Need-is-well-formed-requires
 is-well-formed-requires c κs = search needs
 
-formed : (c : tie.After-is-well-formed) → c .is-well-formed .result ≡ wellFormed (decoded (stateBytes (now (c .before .before .before .before .before .before .before .before .before .before .before .args .snapshot))) true)
+formed : (c : tie.After-is-well-formed) → c .is-well-formed .result ≡ wellFormed (decoded (stateBytes (now (c .before .before .before .before .before .before .before .before .before .before .before .args .snapshot))) true 0)
 formed c = c .is-well-formed .ensures ∙ ap wellFormed (next (c .before))
 
 refused-requires-5 : tie.Need-refused-requires-5

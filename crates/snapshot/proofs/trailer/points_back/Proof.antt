@@ -16,21 +16,21 @@ add-signature c = search needs
 shared-slice-read-signature-2 : tie.Need-shared-slice-read-signature-2
 shared-slice-read-signature-2 c = search needs
 
-add-pair-at : tie.Need-add-pair-at
-add-pair-at c = search needs
+add-low-first-at : tie.Need-add-low-first-at
+add-low-first-at c = search needs
 
-pair-at-requires : tie.Need-pair-at-requires
-pair-at-requires c κs = search needs
+low-first-at-requires : tie.Need-low-first-at-requires
+low-first-at-requires c κs = search needs
 
-add-pair-at-2 : tie.Need-add-pair-at-2
-add-pair-at-2 c = search needs
+add-low-first-at-2 : tie.Need-add-low-first-at-2
+add-low-first-at-2 c = search needs
 
-pair-at-requires-2 : tie.Need-pair-at-requires-2
-pair-at-requires-2 c κs = search needs
+low-first-at-requires-2 : tie.Need-low-first-at-requires-2
+low-first-at-requires-2 c κs = search needs
 
 returns : tie.Need-returns
 unfolding pointsBack
-returns c = simp (c .pair-at2 .ensures, c .before .pair-at .ensures)
+returns c = simp (c .low-first-at2 .ensures, c .before .low-first-at .ensures)
 
 pub points-back-spec : {M : Type 1} → statement M
 points-back-spec =
@@ -40,8 +40,8 @@ points-back-spec =
     shared-slice-read-signature
     add-signature
     shared-slice-read-signature-2
-    add-pair-at
-    pair-at-requires
-    add-pair-at-2
-    pair-at-requires-2
+    add-low-first-at
+    low-first-at-requires
+    add-low-first-at-2
+    low-first-at-requires-2
     returns)

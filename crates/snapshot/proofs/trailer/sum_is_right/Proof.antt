@@ -13,8 +13,8 @@ sub-field c = search needs
 add-field : tie.Need-add-field
 add-field c = search needs
 
-pair-at-requires : tie.Need-pair-at-requires
-pair-at-requires c κs = search needs
+low-first-at-requires : tie.Need-low-first-at-requires
+low-first-at-requires c κs = search needs
 
 slice-aggregate-checksum : tie.Need-slice-aggregate-checksum
 slice-aggregate-checksum c = sym (length-take-le _ _ (omega arith))
@@ -24,7 +24,7 @@ checksum-requires c κs = search needs
 
 returns : tie.Need-returns
 unfolding sumRight
-returns c = simp (c .checksum .ensures, c .before .before .pair-at .ensures)
+returns c = simp (c .checksum .ensures, c .before .before .low-first-at .ensures)
 
 pub sum-is-right-spec : {M : Type 1} → statement M
 sum-is-right-spec =
@@ -32,7 +32,7 @@ sum-is-right-spec =
     (tie.spec
     sub-field
     add-field
-    pair-at-requires
+    low-first-at-requires
     slice-aggregate-checksum
     checksum-requires
     returns)

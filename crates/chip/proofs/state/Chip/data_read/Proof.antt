@@ -25,8 +25,8 @@ returns-2 c =
 prefetch-requires : tie.Need-prefetch-requires
 prefetch-requires c κs = (address-in _ (left-not (c .before .is-well-formed .ensures) (c .if2 .left)), c .before .before .if1 .left)
 
-with-waiting-requires : tie.Need-with-waiting-requires
-with-waiting-requires c κs = search needs
+drop-first-requires : tie.Need-drop-first-requires
+drop-first-requires c κs = search needs
 
 accepted-requires : tie.Need-accepted-requires
 accepted-requires c κs = search needs
@@ -35,7 +35,7 @@ returns-3 : tie.Need-returns-3
 returns-3 c =
     let d = c .before .before .before in
     rw (eq-eqb _ _ (d .before .before .if1 .left), left-not (d .before .is-well-formed .ensures) (d .if2 .left))
-    (rw (c .before .with-waiting .ensures, c .before .before .prefetch .ensures) at (c .accepted .ensures))
+    (rw (c .before .drop-first .ensures, c .before .before .prefetch .ensures) at (c .accepted .ensures))
 
 pub data-read-spec : {M : Type 1} → statement M
 data-read-spec =
@@ -47,6 +47,6 @@ data-read-spec =
     refused-requires-2
     returns-2
     prefetch-requires
-    with-waiting-requires
+    drop-first-requires
     accepted-requires
     returns-3)

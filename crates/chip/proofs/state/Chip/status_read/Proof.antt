@@ -13,8 +13,8 @@ refused-requires c κs = search needs
 returns : tie.Need-returns
 returns c = rw (taken-not (c .before .before .is-well-formed .ensures) (c .before .if1 .taken)) (c .refused .ensures)
 
-with-waiting-requires : tie.Need-with-waiting-requires
-with-waiting-requires c κs = search needs
+drop-first-requires : tie.Need-drop-first-requires
+drop-first-requires c κs = search needs
 
 accepted-requires : tie.Need-accepted-requires
 accepted-requires c κs = search needs
@@ -23,7 +23,7 @@ returns-2 : tie.Need-returns-2
 returns-2 c =
     let d = c .before .before .before .before in
     rw (left-not (d .is-well-formed .ensures) (c .before .before .before .if1 .left))
-    (rw (c .before .before .with-waiting .ensures) at (c .accepted .ensures))
+    (rw (c .before .before .drop-first .ensures) at (c .accepted .ensures))
 
 pub status-read-spec : {M : Type 1} → statement M
 status-read-spec =
@@ -32,6 +32,6 @@ status-read-spec =
     is-well-formed-requires
     refused-requires
     returns
-    with-waiting-requires
+    drop-first-requires
     accepted-requires
     returns-2)

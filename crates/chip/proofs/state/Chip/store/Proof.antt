@@ -1,17 +1,22 @@
 -- `store` meets its contract.
 use native.Mathlib.Omega.{arith}
-use lib.ListN.{length, length-drop, drop}
 use mathlib.Core.Path.{_≡_}
+use mathlib.Core.List.{_∷_}
+use lib.ListN.{length, length-set, length-drop, drop}
 use mir.Val.{boolByte}
 use denote.Ref.{now}
+use Rattle.chip.specs.TwoBytes.{lowFirst}
 use Rattle.chip.specs.Layout.{encoded}
-use Rattle.chip.proofs.Laws.Lists.{set-last}
+use Rattle.chip.proofs.Laws.Lists.{set-rest}
 use borrow.Author.Needs.{needs}
 use Rattle.chip.proofs.state.Chip.store.Statement.{statement}
 use Rattle.chip.proofs.state.Chip.store.Tie as tie
 
 encode-requires : tie.Need-encode-requires
 encode-requires c κs = search needs
+
+low-first-requires : tie.Need-low-first-requires
+low-first-requires c κs = search needs
 
 sub-copy : tie.Need-sub-copy
 sub-copy c = search needs
@@ -34,22 +39,35 @@ cast-b c = search needs
 slice-write-b : tie.Need-slice-write-b
 slice-write-b c = search needs
 
+array-read-b : tie.Need-array-read-b
+array-read-b c = search needs
+
+slice-write-b-2 : tie.Need-slice-write-b-2
+slice-write-b-2 c = rw length-set (search needs)
+
+array-read-b-2 : tie.Need-array-read-b-2
+array-read-b-2 c = search needs
+
+slice-write-b-3 : tie.Need-slice-write-b-3
+slice-write-b-3 c = rw (length-set, length-set) (search needs)
+
 same-length : tie.Need-same-length
 same-length c = search needs
 
 returns : tie.Need-returns
 returns c =
-    let s = c .before .before .before .before .before .before .before .before .args in
-    let e = c .before .before .before .before .before .before .encode in
+    let s = c .before .before .before .before .before .before .before .before .before .args in
+    let e = c .before .before .before .before .before .before .before .encode in
     let fourteen : length (e .result) ≡ 14 = search needs in
-    rw (c .before .before .before .copy .ensures, e .ensures)
-    (set-last (encoded (s .self)) (drop 14 (now (s .b))) 14 (boolByte (s .self .redraw)) (rw (e .ensures) at fourteen) (rw length-drop (omega arith)))
+    rw (c .before .before .before .copy .ensures, e .ensures, c .before .before .before .before .before .before .low-first .ensures)
+    (set-rest (encoded (s .self)) (drop 14 (now (s .b))) (boolByte (s .self .redraw) ∷ lowFirst (s .self .lost)) 14 (rw (e .ensures) at fourteen) (rw length-drop (omega arith)))
 
 pub store-spec : {M : Type 1} → statement M
 store-spec =
     tie.close
     (tie.spec
     encode-requires
+    low-first-requires
     sub-copy
     part-copy-start
     part-copy-end
@@ -57,5 +75,9 @@ store-spec =
     copy-requires
     cast-b
     slice-write-b
+    array-read-b
+    slice-write-b-2
+    array-read-b-2
+    slice-write-b-3
     same-length
     returns)

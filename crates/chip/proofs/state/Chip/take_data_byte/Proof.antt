@@ -16,8 +16,8 @@ cast-set-dirty c = search needs
 set-dirty-requires : tie.Need-set-dirty-requires
 set-dirty-requires c κs = search needs
 
-with-waiting-requires : tie.Need-with-waiting-requires
-with-waiting-requires c κs = search needs
+drop-first-requires : tie.Need-drop-first-requires
+drop-first-requires c κs = search needs
 
 step-requires : tie.Need-step-requires
 step-requires c κs = search needs
@@ -29,7 +29,7 @@ same-length-2 : tie.Need-same-length-2
 same-length-2 c = search needs
 
 returns : tie.Need-returns
-returns c = (simp (c .before .with-waiting .ensures, c .step .ensures), (refl, c .before .before .before .before .set-dirty .ensures))
+returns c = (simp (c .before .drop-first .ensures, c .step .ensures), (refl, c .before .before .before .before .set-dirty .ensures))
 
 pub take-data-byte-spec : {M : Type 1} → statement M
 take-data-byte-spec =
@@ -39,7 +39,7 @@ take-data-byte-spec =
     slice-write-vram
     cast-set-dirty
     set-dirty-requires
-    with-waiting-requires
+    drop-first-requires
     step-requires
     same-length
     same-length-2

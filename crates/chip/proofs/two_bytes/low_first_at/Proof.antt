@@ -1,9 +1,9 @@
--- `pair_at` meets its contract.
+-- `low_first_at` meets its contract.
 use Prim.Native.Nat.{_+_}
 use native.Mathlib.Omega.{arith}
 use borrow.Author.Needs.{needs}
-use Rattle.snapshot.proofs.trailer.pair_at.Statement.{statement}
-use Rattle.snapshot.proofs.trailer.pair_at.Tie as tie
+use Rattle.chip.proofs.two_bytes.low_first_at.Statement.{statement}
+use Rattle.chip.proofs.two_bytes.low_first_at.Tie as tie
 
 shared-slice-read-result : tie.Need-shared-slice-read-result
 shared-slice-read-result c = search needs
@@ -29,8 +29,8 @@ add-result-2 c = omega (arith, c .shared-slice-known2 .given (c .before .before 
 returns : tie.Need-returns
 returns c = search needs
 
-pub pair-at-spec : {M : Type 1} → statement M
-pair-at-spec =
+pub low-first-at-spec : {M : Type 1} → statement M
+low-first-at-spec =
     tie.close
     (tie.spec
     shared-slice-read-result

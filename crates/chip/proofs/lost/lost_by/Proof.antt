@@ -1,0 +1,26 @@
+-- `lost_by` meets its contract.
+use borrow.Author.Tests.{lt-ltb, le-ltb}
+use borrow.Author.Needs.{needs}
+use Rattle.chip.proofs.lost.lost_by.Statement.{statement}
+use Rattle.chip.proofs.lost.lost_by.Tie as tie
+
+enum-told : tie.Need-enum-told
+enum-told c = search needs
+
+enum-told-2 : tie.Need-enum-told-2
+enum-told-2 c = search needs
+
+returns : tie.Need-returns
+returns c = search needs
+
+add-result : tie.Need-add-result
+add-result c = search needs
+
+returns-2 : tie.Need-returns-2
+returns-2 c = rw (c .before .enum-told .given .1, lt-ltb _ _ (c .if1 .taken))
+
+returns-3 : tie.Need-returns-3
+returns-3 c = rw (c .before .enum-told .given .1, le-ltb _ _ (c .if1 .left))
+
+pub lost-by-spec : {M : Type 1} → statement M
+lost-by-spec = tie.close (tie.spec enum-told enum-told-2 returns add-result returns-2 returns-3)
