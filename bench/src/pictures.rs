@@ -32,7 +32,7 @@ pub struct Picture {
 
 /// A picture of random tables, with its sprites.
 pub fn picture(mode: usize, sprites: usize) -> Picture {
-    let mut block = vec![0; 15];
+    let mut block = vec![0; 17];
     block[..8].copy_from_slice(&REGISTERS[mode]);
     block[1] |= [0, 2, 3][sprites];
     let mut vram = vec![0; 16384];

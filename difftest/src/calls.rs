@@ -21,7 +21,7 @@ pub enum Slice {
 }
 
 pub const SLICES: [(Slice, &str, usize); 8] = [
-    (Slice::Block, "block", 15),
+    (Slice::Block, "block", 17),
     (Slice::Vram, "VRAM", 16384),
     (Slice::Map, "map", 2048),
     (Slice::Frame, "frame", 49152),
@@ -30,6 +30,9 @@ pub const SLICES: [(Slice, &str, usize); 8] = [
     (Slice::Snapshot, "snapshot", 16406),
     (Slice::Outcome, "outcome", 4),
 ];
+
+/// Where the block has the count of lost first bytes.
+const LOST: usize = 15;
 
 /// Bytes before and after each slice that no call may touch.
 pub const GUARD: usize = 8;
@@ -60,6 +63,8 @@ pub enum Call {
     Show,
     /// The host sets the block's status.
     PutStatus(u8),
+    /// The host sets the block's count of lost first bytes.
+    PutLost(u16),
     /// The host changes a byte of the snapshot, and its sum with it or not.
     PutSnapshot(usize, u8, bool),
 }
@@ -104,7 +109,17 @@ impl Call {
             Call::RunLog(_) => Some(13),
             Call::ReadLog(_) => Some(14),
             Call::WriteLog(_) => Some(15),
-            Call::Replay(_) | Call::Show | Call::PutStatus(_) | Call::PutSnapshot(..) => None,
+            Call::Replay(_) | Call::Show | Call::PutStatus(_) | Call::PutLost(_) | Call::PutSnapshot(..) => None,
+        }
+    }
+
+    /// Its place in DROPPING.
+    fn dropping(self) -> Option<usize> {
+        match self {
+            Call::DataWrite(_) => Some(0),
+            Call::DataRead => Some(1),
+            Call::StatusRead => Some(2),
+            _ => None,
         }
     }
 
@@ -119,7 +134,8 @@ impl Call {
             Call::FullDraw | Call::Refresh => &[Slice::Block, Slice::Vram, Slice::Map, Slice::Frame, Slice::Notes],
             Call::RunLog(_) => &[Slice::Block, Slice::Vram, Slice::Map, Slice::Line, Slice::Outcome],
             Call::Replay(_) | Call::Show => &[Slice::Snapshot],
-            Call::ReadLog(_) | Call::WriteLog(_) | Call::PutStatus(_) | Call::PutSnapshot(..) => &[],
+            Call::ReadLog(_) | Call::WriteLog(_) => &[],
+            Call::PutStatus(_) | Call::PutLost(_) | Call::PutSnapshot(..) => &[],
         }
     }
 
@@ -164,6 +180,7 @@ impl std::fmt::Display for Step {
     fn fmt(&self, f: &mut std::fmt::Formatter<'_>) -> std::fmt::Result {
         match self.call {
             Call::PutStatus(byte) => write!(f, "(host) block[13] = {byte:02X}")?,
+            Call::PutLost(count) => write!(f, "(host) count of lost first bytes = {count}")?,
             Call::PutSnapshot(at, byte, sum) => {
                 let sum = if sum { ", and the sum with it" } else { "" };
                 write!(f, "(host) snapshot[{at}] = {byte:02X}{sum}")?
@@ -332,6 +349,10 @@ impl Side {
                 block[13] = byte;
                 0
             }
+            Call::PutLost(count) => {
+                block[LOST..].copy_from_slice(&count.to_le_bytes());
+                0
+            }
             Call::PutSnapshot(at, byte, sum) => {
                 snapshot[at] = byte;
                 if sum {
@@ -354,6 +375,11 @@ pub struct Reached {
     /// Draws that turned 5S or C on.
     pub fifth: u64,
     pub coincidence: u64,
+    /// First bytes dropped by single calls and by calls of a run.
+    pub lost: Lost,
+    pub lost_in_runs: Lost,
+    /// Blocks that were refused for their length, as in BLOCKS.
+    pub blocks: [u64; BLOCKS.len()],
     /// Draws that turned C on where sprites meet on hidden columns alone, as in HIDDEN.
     pub hidden: [u64; HIDDEN.len()],
     /// Refreshes by what they redrew: nothing, some lines, all.
@@ -372,6 +398,18 @@ pub struct Reached {
     pub replayed: [u64; 2],
     pub shown: u64,
 }
+
+/// The calls that drop a waiting first byte.
+pub const DROPPING: [&str; 3] = ["data write", "data read", "status read"];
+
+/// The counts of lost first bytes that such a call starts from.
+pub const LOST_FROM: [&str; 3] = ["less than 65,534", "65,534", "65,535"];
+
+/// First bytes dropped: by which call, and from which count.
+pub type Lost = [[u64; LOST_FROM.len()]; DROPPING.len()];
+
+/// Lengths of a block that is too short or too long: the one without the count, and those next to the right one.
+pub const BLOCKS: [usize; 3] = [15, 16, 18];
 
 /// Lines by the side of the screen on which sprites meet, and draws of whole pictures.
 pub const HIDDEN: [&str; 4] = ["lines left of 0", "lines right of 255", "full draws", "refreshes"];
@@ -421,7 +459,7 @@ pub fn run(case: &Case, reached: &mut Reached) -> Result<(), Difference> {
         if let Some(what) = found {
             return Err(Difference { step: at, what });
         }
-        count(step, answer, before[13], library.slice(Slice::Block)[13], reached);
+        count(step, answer, &before, library.slice(Slice::Block), reached);
     }
     Ok(())
 }
@@ -440,7 +478,7 @@ fn lent_logs(case: &Case, step: &Step, second: &mut Side) -> (Vec<u8>, Vec<u8>) 
         }
         Call::Replay(_) => {
             let snapshot = second.slice(Slice::Snapshot);
-            let block = [&snapshot[16384..16398], &[1]].concat();
+            let block = [&snapshot[16384..16398], &[1, 0, 0]].concat();
             let log = plan.log_bytes(&plan.run_bytes(&block, &snapshot[..16384]));
             (log, Vec::new())
         }
@@ -515,7 +553,7 @@ fn singles_differ(mut host: Host, answer: u32, after: &mut Side, reached: &mut R
         return None;
     }
     let outcome = after.slice(Slice::Outcome).to_vec();
-    if let Some(what) = host.differs(&LIBRARY, &records, answer, &outcome) {
+    if let Some(what) = host.differs(&LIBRARY, &records, answer, &outcome, &mut reached.lost_in_runs) {
         return Some(what);
     }
     for (slice, single) in [
@@ -589,12 +627,19 @@ fn full_draw_differs(mut block: Vec<u8>, after: &mut Side, reached: &mut Reached
     None
 }
 
-fn count(step: &Step, answer: u32, before: u8, after: u8, reached: &mut Reached) {
+fn count(step: &Step, answer: u32, before: &[u8], after: &[u8], reached: &mut Reached) {
     if let Some(place) = step.call.place() {
         reached.answers[place][(answer / 256).min(9) as usize] += 1;
     }
+    for (place, length) in BLOCKS.into_iter().enumerate() {
+        let lent = step.lengths.contains(&(Slice::Block, length));
+        reached.blocks[place] += u64::from(lent && answer == 2 * 256);
+    }
+    if let (Some(place), 0..=255) = (step.call.dropping(), answer) {
+        count_lost(place, before, after, &mut reached.lost);
+    }
     if let Call::DrawLine(_) | Call::FullDraw | Call::Refresh = step.call {
-        let turned_on = after & !before;
+        let turned_on = after[13] & !before[13];
         reached.fifth += u64::from(turned_on & 0x40 != 0);
         reached.coincidence += u64::from(turned_on & 0x20 != 0);
     }
@@ -605,6 +650,19 @@ fn count(step: &Step, answer: u32, before: u8, after: u8, reached: &mut Reached)
             _ => 1,
         }] += 1;
     }
+}
+
+/// Counts an accepted call of DROPPING where a first byte waited and the count of lost ones went up by one or was at its
+/// end.
+pub fn count_lost(place: usize, before: &[u8], after: &[u8], lost: &mut Lost) {
+    let count = |block: &[u8]| u16::from_le_bytes([block[LOST], block[LOST + 1]]);
+    let from = match (count(before), count(after)) {
+        (65_535, 65_535) => 2,
+        (65_534, 65_535) => 1,
+        (from, to) if from.checked_add(1) == Some(to) => 0,
+        _ => return,
+    };
+    lost[place][from] += u64::from(before[11] == 1);
 }
 
 /// Counts a draw that turned C on, by the reference, where no sprites meet on a visible column. A refresh counts only

@@ -3,7 +3,7 @@
 use crate::calls::{Call, Case, Slice, Step, GUARD, SLICES};
 use crate::logs::Log;
 use crate::random::Random;
-use crate::scenes::{scene, status, KINDS, MASKS, MODES};
+use crate::scenes::{lost, scene, status, KINDS, MASKS, MODES};
 
 /// One state: all its lines, its snapshot and show's text, and its frame, notes and status after a
 /// full draw. Half of the states keep status from line to line; the others set it anew for each.
@@ -156,7 +156,7 @@ pub struct Maker {
 impl Maker {
     /// A few calls that belong together.
     fn some(&mut self) {
-        match self.random.below(205) {
+        match self.random.below(213) {
             0..=79 => self.write(),
             80..=95 => self.read(),
             96..=99 => self.register(),
@@ -177,14 +177,44 @@ impl Maker {
             148..=157 => self.snapshot(),
             158..=159 => self.push(Call::FullDraw),
             160..=199 => self.push(Call::Refresh),
-            _ => self.any_log(6),
+            200..=204 => self.any_log(6),
+            _ => self.losses(),
         }
+    }
+
+    /// The host sets the count of lost first bytes.
+    pub(crate) fn put_lost(&mut self) {
+        let count = lost(&mut self.random);
+        self.push(Call::PutLost(count));
+    }
+
+    /// First bytes, and calls that drop them where they wait.
+    fn losses(&mut self) {
+        self.put_lost();
+        for _ in 0..1 + self.random.below(4) {
+            let byte = self.random.byte();
+            if !self.random.one_in(4) {
+                self.first_byte();
+            }
+            let call = self
+                .random
+                .pick(&[Call::DataWrite(byte), Call::DataRead, Call::StatusRead]);
+            self.push(call);
+        }
+    }
+
+    /// A byte that waits, or completes a pair which sets the address.
+    fn first_byte(&mut self) {
+        let byte = self.random.byte() % 128;
+        self.push(Call::ControlWrite(byte));
     }
 
     /// Adds a call, now and then one with something wrong.
     pub(crate) fn push(&mut self, call: Call) {
         let mut step = Step::from(call);
-        if !call.lent().is_empty() && self.random.one_in(10) {
+        // Power-ups are few.
+        let times = if call == Call::PowerUp { 2 } else { 10 };
+        if !call.lent().is_empty() && self.random.one_in(times) {
             for _ in 0..1 + self.random.below(3) {
                 let slice = self.random.pick(call.lent());
                 let length = self.wrong_length(slice);
@@ -202,7 +232,7 @@ impl Maker {
         let right = SLICES[slice as usize].2;
         let less = self.random.below(right);
         let more = right + 1 + self.random.below(GUARD);
-        self.random.pick(&[0, 1, right - 1, right + 1, less, more])
+        self.random.pick(&[0, 1, right - 2, right - 1, right + 1, less, more])
     }
 
     /// Bytes that leave no state, or only might.
@@ -292,9 +322,12 @@ impl Maker {
         self.registers[number] = byte & MASKS[number];
     }
 
-    /// Power-up or reset, with the display turned on after it.
+    /// Power-up or reset, often while a first byte waits, with the display turned on after it.
     fn restart(&mut self) {
-        if self.random.one_in(4) {
+        if self.random.one_in(2) {
+            self.first_byte();
+        }
+        if self.random.one_in(3) {
             self.push(Call::PowerUp);
             self.registers.fill(0);
         } else {

@@ -1,6 +1,6 @@
 //! Logs: how they are planned, their bytes, and the same calls made singly.
 
-use crate::calls::{Call, Step};
+use crate::calls::{count_lost, Call, Lost, Step};
 use crate::library::{Calls, REFERENCE};
 use crate::lists::Maker;
 use crate::scenes::MASKS;
@@ -54,6 +54,11 @@ impl std::fmt::Display for Log {
 
 pub fn is_read(operation: u8) -> bool {
     operation == 2 || operation == 3
+}
+
+/// The operation's place in DROPPING.
+fn dropping(operation: u8) -> Option<usize> {
+    [0, 2, 3].into_iter().position(|drops| drops == operation)
 }
 
 /// A length that is so many more or fewer, and not below 0.
@@ -154,8 +159,15 @@ impl Host {
     }
 
     /// Makes the calls of a run that was accepted, as far as it says that they were done, and says what
-    /// does not fit its answer and outcome.
-    pub fn differs(&mut self, calls: &Calls, records: &[u8], found: u32, outcome: &[u8]) -> Option<String> {
+    /// does not fit its answer and outcome. Counts the first bytes that were dropped.
+    pub fn differs(
+        &mut self,
+        calls: &Calls,
+        records: &[u8],
+        found: u32,
+        outcome: &[u8],
+        lost: &mut Lost,
+    ) -> Option<String> {
         let number = |at: usize| usize::from(outcome[at]) + 256 * usize::from(outcome[at + 1]);
         let (done, place, count) = (number(0), number(2), records.len() / 2);
         let ended_well = place == count;
@@ -167,7 +179,11 @@ impl Host {
             if operation > 6 {
                 return Some(format!("record {at} of an accepted run has operation {operation}"));
             }
+            let before = self.block.clone();
             let answer = self.single(calls, operation, value);
+            if let Some(place) = dropping(operation) {
+                count_lost(place, &before, &self.block, lost);
+            }
             let right = match (is_read(operation), at == place) {
                 (true, true) => answer == found && answer != value.into(),
                 (true, false) => answer == value.into(),
@@ -254,8 +270,12 @@ impl Maker {
         self.steps.push(Call::WriteSnapshot.into());
     }
 
-    /// The call by the log's place among the case's logs.
+    /// The call by the log's place among the case's logs. Half of the runs come after another count of lost
+    /// first bytes.
     fn call(&mut self, made: Made, log: Log) -> Call {
+        if matches!(made, Made::Run) && self.random.one_in(2) {
+            self.put_lost();
+        }
         let at = self.logs.len();
         self.logs.push(log);
         match made {

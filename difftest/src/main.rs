@@ -5,7 +5,7 @@
 //! same in every run. --faults plants each of the reference's faults in turn and wants it found; --gate
 //! does both.
 
-use difftest::calls::{run, Case, Reached, HIDDEN, LENGTHS, NAMES};
+use difftest::calls::{run, Case, Lost, Reached, BLOCKS, DROPPING, HIDDEN, LENGTHS, LOST_FROM, NAMES};
 use difftest::lists::{list_case, log_case, place, state_case};
 use difftest::scenes::{KINDS, MODES};
 use difftest::{meetings, shrink};
@@ -250,6 +250,7 @@ fn summary(options: &Options, compared: &Compared, reached: &Reached) {
             println!("{name:16}{:>10}{refused}", answers[0]);
         }
     }
+    print_lost(reached);
     println!("draws that turned 5S on: {}, C on: {}", reached.fifth, reached.coincidence);
     let random = at_random(compared, reached);
     for (name, counts) in [("meetings", compared.hidden), ("random cases", random)] {
@@ -282,6 +283,21 @@ fn summary(options: &Options, compared: &Compared, reached: &Reached) {
     println!("replays: {accepted}, and {refused} refused; show's texts: {}", reached.shown);
 }
 
+fn print_lost(reached: &Reached) {
+    let blocks: Vec<String> = BLOCKS
+        .iter()
+        .zip(reached.blocks)
+        .map(|(length, count)| format!("{length}: {count}"))
+        .collect();
+    println!("refused blocks by their bytes: {}", blocks.join(", "));
+    for (who, lost) in by_whom(reached) {
+        let counts: Vec<String> = each_lost(lost)
+            .map(|(what, count)| format!("{what}: {count}"))
+            .collect();
+        println!("first bytes lost by {who}, by the count before: {}", counts.join("; "));
+    }
+}
+
 /// What each call can be refused with; 0 stands for accepted.
 const REFUSALS: [&[usize]; NAMES.len()] = [
     &[0, 1, 2],
@@ -301,6 +317,19 @@ const REFUSALS: [&[usize]; NAMES.len()] = [
     &[0, 8, 9],
     &[0, 8, 9],
 ];
+
+/// First bytes lost by single calls and in runs.
+fn by_whom(reached: &Reached) -> [(&'static str, Lost); 2] {
+    [("single calls", reached.lost), ("calls of runs", reached.lost_in_runs)]
+}
+
+/// Each call that drops first bytes with each count to start from, and how often.
+fn each_lost(lost: Lost) -> impl Iterator<Item = (String, u64)> {
+    DROPPING.into_iter().zip(lost).flat_map(|(call, counts)| {
+        let from = LOST_FROM.into_iter().zip(counts);
+        from.map(move |(from, count)| (format!("{call} from {from}"), count))
+    })
+}
 
 /// What the cases besides the meetings have reached of HIDDEN.
 fn at_random(compared: &Compared, reached: &Reached) -> [u64; HIDDEN.len()] {
@@ -348,6 +377,14 @@ fn missed(compared: &Compared, reached: &Reached) -> Vec<String> {
     for (length, _) in LENGTHS.iter().zip(reached.lengths).filter(|&(_, count)| count == 0) {
         missed.push(format!("a run of {length} records"));
     }
+    for (who, lost) in by_whom(reached) {
+        for (what, _) in each_lost(lost).filter(|&(_, count)| count == 0) {
+            missed.push(format!("a first byte lost by {who}: {what}"));
+        }
+    }
+    for (length, _) in BLOCKS.iter().zip(reached.blocks).filter(|&(_, count)| count == 0) {
+        missed.push(format!("a refused block of {length} bytes"));
+    }
     for (operation, _) in reached.operations.iter().enumerate().filter(|&(_, &count)| count == 0) {
         missed.push(format!("operation {operation} in a run"));
     }
@@ -356,13 +393,15 @@ fn missed(compared: &Compared, reached: &Reached) -> Vec<String> {
 
 /// Every fault of the reference has to be found.
 fn plant_all(options: &Options, passed: &mut u64, failed: &mut u64) {
+    // Sprites that meet at the outermost columns alone hardly ever come up at random.
+    let outermost = faults::FIRST_COLUMN_FORGOTTEN..=faults::LAST_COLUMNS_FORGOTTEN;
+    let hidden = faults::ONLY_VISIBLE_COINCIDE..=faults::LAST_COLUMNS_FORGOTTEN;
     for number in 1..=faults::LAST {
-        // Sprites that meet at the outermost columns alone hardly ever come up at random.
-        if number < faults::FIRST_COLUMN_FORGOTTEN {
+        if !outermost.contains(&number) {
             let among = format!("{} states, their logs and lists", options.cases);
             plant(number, random(options), &among, options, passed, failed);
         }
-        if number >= faults::ONLY_VISIBLE_COINCIDE {
+        if hidden.contains(&number) {
             plant(number, fixed(), "the meetings", options, passed, failed);
         }
     }

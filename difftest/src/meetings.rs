@@ -12,6 +12,9 @@ const REGISTERS: [u8; 8] = [0x00, 0x40, 0x0E, 0xFF, 0x00, 0x76, 0x03, 0x04];
 const SHAPES: usize = 0x1800;
 const ATTRIBUTES: usize = 0x3B00;
 
+/// A count of lost first bytes, which no call here changes.
+const LOST: [u8; 2] = [0xFE, 0xFF];
+
 /// Names of the shapes: all bits set, the leftmost column's alone, the rightmost column's alone.
 const FULL: u8 = 0;
 const LEFTMOST: u8 = 4;
@@ -210,7 +213,7 @@ pub fn case(number: u64) -> Case {
     let scene = &scenes()[number as usize];
     let lines = lines(scene);
     let (m3, m2) = MODES[number as usize % MODES.len()];
-    let mut block = [&REGISTERS[..], &[0; 7]].concat();
+    let mut block = [&REGISTERS[..], &[0; 7], &LOST].concat();
     block[0] |= m3;
     block[1] |= m2 | scene.form.0;
     block[14] = 1;

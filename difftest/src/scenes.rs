@@ -36,7 +36,7 @@ pub fn scene(random: &mut Random, mode: usize, kind: usize) -> (Vec<u8>, Vec<u8>
 }
 
 fn block(random: &mut Random, mode: usize, kind: usize) -> Vec<u8> {
-    let mut block = vec![0; 15];
+    let mut block = vec![0; 17];
     for (register, mask) in MASKS.into_iter().enumerate() {
         block[register] = random.byte() & mask;
     }
@@ -72,7 +72,18 @@ fn block(random: &mut Random, mode: usize, kind: usize) -> Vec<u8> {
         block[12] = random.byte();
     }
     block[13] = status(random);
+    block[15..].copy_from_slice(&lost(random).to_le_bytes());
     block
+}
+
+/// A count of lost first bytes; mostly one at which it soon stops.
+pub fn lost(random: &mut Random) -> u16 {
+    match random.below(6) {
+        0 => 0,
+        1 => random.below(4) as u16,
+        2 => random.next() as u16,
+        _ => 65_533 + random.below(3) as u16,
+    }
 }
 
 /// A status byte; mostly one that a fifth sprite can still change.

@@ -1,6 +1,8 @@
-//! The same calls with the state as a lent block of 15 bytes: the 14 of the
-//! snapshot, then the redraw mark. Each gives 256 * refusal + value.
+//! The same calls with the state as a lent block of 17 bytes: the 14 of the
+//! snapshot, then the redraw mark, then the count of lost first bytes, low byte
+//! first. Each gives 256 * refusal + value.
 
+use crate::faults::{self, planted};
 use crate::log::{self, Ran, OUTCOME_BYTES};
 use crate::refusal::{self, refused, Answer};
 use crate::snapshot::{
@@ -9,23 +11,47 @@ use crate::snapshot::{
 use crate::state::{State, FRAME_BYTES, LINE_BYTES, MAP_BYTES, NOTE_BYTES, VRAM_BYTES};
 use crate::{frame, ports};
 
-pub const BLOCK_BYTES: usize = STATE_BYTES + 1;
+pub const BLOCK_BYTES: usize = STATE_BYTES + 3;
 
 /// The state a block stands for, or none when its contents are wrong.
 pub fn read_block(block: &[u8]) -> Option<State> {
-    let (&redraw, bytes) = block.split_last()?;
-    match redraw {
-        0 => state_from_bytes(bytes, false),
-        1 => state_from_bytes(bytes, true),
-        _ => None,
+    let [bytes @ .., redraw, _, _] = block else {
+        return None;
+    };
+    let state = match redraw {
+        0 => state_from_bytes(bytes, false)?,
+        1 => state_from_bytes(bytes, true)?,
+        _ => return None,
+    };
+    Some(State {
+        lost: lost_in(block),
+        ..state
+    })
+}
+
+/// Puts a state into a block of 17 bytes.
+fn write_block(block: &mut [u8], state: &State) {
+    if let [bytes @ .., redraw, low, high] = block {
+        bytes.copy_from_slice(&state_to_bytes(state));
+        *redraw = u8::from(state.redraw);
+        [*low, *high] = count_bytes(state.lost.to_le_bytes());
     }
 }
 
-/// Puts a state into a block of 15 bytes.
-fn write_block(block: &mut [u8], state: &State) {
-    if let [bytes @ .., redraw] = block {
-        bytes.copy_from_slice(&state_to_bytes(state));
-        *redraw = u8::from(state.redraw);
+/// The count at a block's end, whatever stands before it.
+fn lost_in(block: &[u8]) -> u16 {
+    match block {
+        [.., low, high] => u16::from_le_bytes(count_bytes([*low, *high])),
+        _ => 0,
+    }
+}
+
+/// The count's two bytes as they are, but for the planted mistake.
+fn count_bytes([low, high]: [u8; 2]) -> [u8; 2] {
+    if planted(faults::COUNT_HIGH_FIRST) {
+        [high, low]
+    } else {
+        [low, high]
     }
 }
 
@@ -167,7 +193,11 @@ pub fn vdp_read_snapshot(block: &mut [u8], vram: &mut [u8], snapshot: &[u8]) -> 
     if let Some(no) = refused(&tests) {
         return no.number();
     }
-    let mut state = State::default();
+    // The old count goes along: it is the reading that clears it.
+    let mut state = State {
+        lost: lost_in(block),
+        ..State::default()
+    };
     let answer = snapshot::read_snapshot(&mut state, vram, snapshot);
     write_block(block, &state);
     answer.number()

@@ -86,8 +86,35 @@ pub const FIRST_COLUMN_FORGOTTEN: u32 = 39;
 /// there, so those that meet at 286 meet at 285 too.
 pub const LAST_COLUMNS_FORGOTTEN: u32 = 40;
 
+/// The count of lost first bytes goes from 65,535 to 0.
+pub const COUNT_WRAPS: u32 = 41;
+/// The count stops at 65,534.
+pub const COUNT_STOPS_EARLY: u32 = 42;
+/// A control write that completes a pair counts.
+pub const PAIR_COUNTS: u32 = 43;
+/// A control write whose byte begins to wait counts.
+pub const FIRST_BYTE_COUNTS: u32 = 44;
+/// Data write drops a first byte and does not count it.
+pub const DATA_WRITE_FORGETS_COUNT: u32 = 45;
+/// Data read drops a first byte and does not count it.
+pub const DATA_READ_FORGETS_COUNT: u32 = 46;
+/// Status read drops a first byte and does not count it.
+pub const STATUS_READ_FORGETS_COUNT: u32 = 47;
+/// The three calls count though nothing waits.
+pub const COUNTS_WITHOUT_WAITING: u32 = 48;
+/// Reset leaves the count as it was.
+pub const RESET_KEEPS_COUNT: u32 = 49;
+/// Reset clears the count and then counts the byte that waits.
+pub const RESET_COUNTS: u32 = 50;
+/// Reading a snapshot leaves the count as it was.
+pub const SNAPSHOT_KEEPS_COUNT: u32 = 51;
+/// The count's two bytes in the block have the high one first.
+pub const COUNT_HIGH_FIRST: u32 = 52;
+/// A run leaves the count as it was.
+pub const RUN_KEEPS_COUNT: u32 = 53;
+
 /// The highest fault number.
-pub const LAST: u32 = 40;
+pub const LAST: u32 = 53;
 
 /// A few words for each fault, from 1 up.
 pub const NAMES: [&str; LAST as usize] = [
@@ -131,6 +158,19 @@ pub const NAMES: [&str; LAST as usize] = [
     "the fourth drawn sprite does not coincide",
     "sprites do not coincide at column -32",
     "sprites do not coincide at columns 285 and 286",
+    "the count of lost bytes wraps",
+    "the count of lost bytes stops at 65,534",
+    "a completed pair counts as a lost byte",
+    "a byte that begins to wait counts as lost",
+    "a data write does not count the byte it drops",
+    "a data read does not count the byte it drops",
+    "a status read does not count the byte it drops",
+    "a lost byte is counted where none waits",
+    "a reset leaves the count of lost bytes",
+    "a reset counts the byte that waits",
+    "a snapshot read leaves the count of lost bytes",
+    "the block has the count's high byte first",
+    "a run leaves the count of lost bytes",
 ];
 
 thread_local! {

@@ -200,6 +200,7 @@ fn run_records(
     line: &mut [u8],
     records: &[u8],
 ) -> Ran {
+    let lost = state.lost;
     let mut differing: Option<(u16, u8)> = None;
     let mut count: u16 = 0;
     for (operation, value) in pairs(records) {
@@ -212,6 +213,9 @@ fn run_records(
         if differing.is_some() && !planted(faults::GOES_ON_AFTER_DIFFERING) {
             break;
         }
+    }
+    if planted(faults::RUN_KEEPS_COUNT) {
+        state.lost = lost;
     }
     match differing {
         None => Ran {

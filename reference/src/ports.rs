@@ -24,8 +24,14 @@ pub fn control_write(state: &mut State, vram: &[u8], byte: u8) -> Answer {
         return no;
     }
     match state.waiting {
-        None => state.waiting = Some(byte),
-        Some(first) => complete_pair(state, vram, first, byte),
+        None => {
+            state.waiting = Some(byte);
+            count_by_mistake(state, faults::FIRST_BYTE_COUNTS);
+        }
+        Some(first) => {
+            complete_pair(state, vram, first, byte);
+            count_by_mistake(state, faults::PAIR_COUNTS);
+        }
     }
     Answer::accepted(0)
 }
@@ -53,6 +59,33 @@ fn write_register(state: &mut State, number: usize, byte: u8) {
     *register = kept;
 }
 
+/// Nothing waits any more, and a first byte that waited is counted as lost. The
+/// planted mistake is the one of the call.
+fn drop_first_byte(state: &mut State, forgets: u32) {
+    let waited = state.waiting.is_some() || planted(faults::COUNTS_WITHOUT_WAITING);
+    if waited && !planted(forgets) {
+        count_lost(state);
+    }
+    state.waiting = None;
+}
+
+/// One more lost first byte; the count stops at 65,535.
+fn count_lost(state: &mut State) {
+    state.lost = match state.lost {
+        65_535 if planted(faults::COUNT_WRAPS) => 0,
+        65_534 if planted(faults::COUNT_STOPS_EARLY) => 65_534,
+        65_535 => 65_535,
+        lost => lost + 1,
+    };
+}
+
+/// Counts only when that mistake is planted.
+fn count_by_mistake(state: &mut State, fault: u32) {
+    if planted(fault) {
+        count_lost(state);
+    }
+}
+
 /// The byte goes to VRAM and the buffer, and the map learns of it.
 pub fn data_write(state: &mut State, vram: &mut [u8], map: &mut [u8], byte: u8) -> Answer {
     if let Some(no) = refused(&[
@@ -72,7 +105,7 @@ pub fn data_write(state: &mut State, vram: &mut [u8], map: &mut [u8], byte: u8) 
         map_set(map, at);
     }
     state.step();
-    state.waiting = None;
+    drop_first_byte(state, faults::DATA_WRITE_FORGETS_COUNT);
     Answer::accepted(0)
 }
 
@@ -89,7 +122,7 @@ pub fn data_read(state: &mut State, vram: &[u8]) -> Answer {
     if !(planted(faults::READ_DOES_NOT_WRAP) && state.address == 16_383) {
         state.step();
     }
-    state.waiting = None;
+    drop_first_byte(state, faults::DATA_READ_FORGETS_COUNT);
     Answer::accepted(read)
 }
 
@@ -100,7 +133,7 @@ pub fn status_read(state: &mut State) -> Answer {
     }
     let read = state.status;
     state.status &= !(F | FIFTH | C);
-    state.waiting = None;
+    drop_first_byte(state, faults::STATUS_READ_FORGETS_COUNT);
     Answer::accepted(read)
 }
 
@@ -122,8 +155,8 @@ pub fn interrupt_line(state: &State) -> Answer {
     Answer::accepted(u8::from(on))
 }
 
-/// Registers 0 and 1, status and the waiting byte go; all is to be redrawn.
-/// The other registers, address and buffer stay.
+/// Registers 0 and 1, status, the waiting byte and the count of lost ones go;
+/// all is to be redrawn. The other registers, address and buffer stay.
 pub fn reset(state: &mut State) -> Answer {
     if let Some(no) = refused(&[(refusal::STATE, !state.is_well_formed())]) {
         return no;
@@ -131,9 +164,21 @@ pub fn reset(state: &mut State) -> Answer {
     state.registers[0] = 0;
     state.registers[1] = 0;
     state.status = 0;
+    state.lost = lost_after_reset(state);
     state.waiting = None;
     if !planted(faults::RESET_FORGETS_MARK) {
         state.redraw = true;
     }
     Answer::accepted(0)
+}
+
+/// 0, whether a byte waits or not, but for two of the planted mistakes.
+fn lost_after_reset(state: &State) -> u16 {
+    if planted(faults::RESET_KEEPS_COUNT) {
+        state.lost
+    } else if planted(faults::RESET_COUNTS) {
+        u16::from(state.waiting.is_some())
+    } else {
+        0
+    }
 }

@@ -1,5 +1,6 @@
 //! Snapshots: VRAM, 14 state bytes and a trailer of 8 bytes.
 
+use crate::faults::{self, planted};
 use crate::refusal::{self, refused, Answer};
 use crate::state::{State, VRAM_BYTES};
 
@@ -14,7 +15,7 @@ const TRAILER_AT: usize = VRAM_BYTES + STATE_BYTES;
 /// Where the sum is, after all the bytes it adds up.
 const SUM_AT: usize = TRAILER_AT + TRAILER_START.len();
 
-/// The state as 14 bytes, without the redraw mark.
+/// The state as 14 bytes, without the redraw mark and the count of lost bytes.
 pub fn state_to_bytes(state: &State) -> [u8; STATE_BYTES] {
     let mut bytes = [0; STATE_BYTES];
     bytes[..8].copy_from_slice(&state.registers);
@@ -26,8 +27,8 @@ pub fn state_to_bytes(state: &State) -> [u8; STATE_BYTES] {
     bytes
 }
 
-/// The state that 14 bytes stand for, with the given redraw mark, or none
-/// when they stand for no well-formed state.
+/// The state that 14 bytes stand for, with the given redraw mark and a count of
+/// 0, or none when they stand for no well-formed state.
 pub fn state_from_bytes(bytes: &[u8], redraw: bool) -> Option<State> {
     let bytes: [u8; STATE_BYTES] = bytes.try_into().ok()?;
     let mut state = State {
@@ -91,7 +92,11 @@ pub fn read_snapshot(state: &mut State, vram: &mut [u8], snapshot: &[u8]) -> Ans
     }
     match (state_in(snapshot), snapshot.get(..VRAM_BYTES)) {
         (Some(read), Some(bytes)) => {
+            let lost = state.lost;
             *state = read;
+            if planted(faults::SNAPSHOT_KEEPS_COUNT) {
+                state.lost = lost;
+            }
             vram.copy_from_slice(bytes);
             Answer::accepted(0)
         }

@@ -28,6 +28,8 @@ pub struct State {
     pub waiting: Option<u8>,
     pub status: u8,
     pub redraw: bool,
+    /// How many first bytes a data write, data read or status read dropped.
+    pub lost: u16,
 }
 
 impl State {
@@ -39,7 +41,8 @@ impl State {
         }
     }
 
-    /// No register has a bit outside its mask and the address has 14 bits.
+    /// No register has a bit outside its mask and the address has 14 bits. Any
+    /// count of lost first bytes will do.
     pub fn is_well_formed(&self) -> bool {
         let masks_kept = self
             .registers

@@ -645,11 +645,11 @@ fn interrupt_line_needs_both() {
 #[test]
 fn reset_clears_some_and_keeps_the_rest() {
     let mut lent = Lent::with_registers([3, 0xFB, 1, 2, 3, 4, 5, 6]);
-    lent.block[8..15].copy_from_slice(&[0x34, 0x12, 0x56, 1, 0x78, 0xFF, 0]);
+    lent.block[8..].copy_from_slice(&[0x34, 0x12, 0x56, 1, 0x78, 0xFF, 0, 0x9A, 0xBC]);
     assert_eq!(vdp_reset(&mut lent.block), 0);
     assert_eq!(
         lent.block,
-        [0, 0, 1, 2, 3, 4, 5, 6, 0x34, 0x12, 0x56, 0, 0, 0, 1]
+        [0, 0, 1, 2, 3, 4, 5, 6, 0x34, 0x12, 0x56, 0, 0, 0, 1, 0, 0]
     );
 }
 
@@ -660,7 +660,9 @@ fn power_up_clears_vram_and_not_the_map() {
     lent.vram.fill(0xFF);
     lent.map.fill(0xFF);
     assert_eq!(vdp_power_up(&mut lent.block, &mut lent.vram), 0);
-    assert_eq!(lent.block, [0, 0, 0, 0, 0, 0, 0, 0, 0, 0, 0, 0, 0, 0, 1]);
+    let mut expected = vec![0; 17];
+    expected[14] = 1;
+    assert_eq!(lent.block, expected);
     assert_eq!(lent.vram, vec![0; 16384]);
     assert_eq!(lent.map, vec![0xFF; 2048]);
 }
@@ -678,7 +680,7 @@ fn power_up_trailer() {
 #[test]
 fn snapshot_goes_round() {
     let mut lent = Lent::with_registers([3, 0xFB, 1, 2, 3, 4, 5, 6]);
-    lent.block[8..15].copy_from_slice(&[0x34, 0x12, 0x56, 1, 0x78, 0xFF, 0]);
+    lent.block[8..].copy_from_slice(&[0x34, 0x12, 0x56, 1, 0x78, 0xFF, 0, 0x9A, 0xBC]);
     for (at, byte) in lent.vram.iter_mut().enumerate() {
         *byte = (at * 7 + at / 256) as u8;
     }
@@ -689,6 +691,7 @@ fn snapshot_goes_round() {
     assert_eq!(lent.read_snapshot(), 0);
     assert_eq!(lent.block[..14], block[..14]);
     assert_eq!(lent.block[14], 1, "reading sets the redraw mark");
+    assert_eq!(lent.block[15..], [0, 0], "reading clears the count");
     assert_eq!(lent.vram, vram);
 }
 

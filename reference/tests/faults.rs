@@ -488,3 +488,116 @@ fn fault_40_the_last_columns() {
     let case = || status_of_two(3, [49, 254, RIGHTMOST, 0]);
     shows(fault, case, 0x20, 0x20);
 }
+
+/// The count after a call, from this one with a byte waiting or none.
+fn lost_after(lost: u16, waiting: Option<u8>, call: fn(&mut Lent) -> u32) -> u16 {
+    let mut lent = board(0, &[]);
+    lent.set_lost(lost);
+    lent.set_waiting(waiting);
+    call(&mut lent);
+    lent.lost()
+}
+
+/// The calls that drop a first byte.
+const DROPPING: [fn(&mut Lent) -> u32; 3] = [|lent| lent.write(7), Lent::read, Lent::read_status];
+
+/// The count after each of these calls alone.
+fn lost_after_each(lost: u16, waiting: Option<u8>) -> [u16; 3] {
+    DROPPING.map(|call| lost_after(lost, waiting, call))
+}
+
+#[test]
+fn fault_41_the_count_wraps() {
+    let fault = faults::COUNT_WRAPS;
+    let case = || lost_after_each(65_535, Some(1));
+    shows(fault, case, [65_535; 3], [0; 3]);
+    let case = || lost_after_each(65_534, Some(1));
+    shows(fault, case, [65_535; 3], [65_535; 3]);
+}
+
+#[test]
+fn fault_42_the_count_stops_early() {
+    let fault = faults::COUNT_STOPS_EARLY;
+    let case = || lost_after_each(65_534, Some(1));
+    shows(fault, case, [65_535; 3], [65_534; 3]);
+    let case = || lost_after_each(65_533, Some(1));
+    shows(fault, case, [65_534; 3], [65_534; 3]);
+}
+
+/// The count after a control write with a byte waiting and with none.
+fn lost_by_control() -> [u16; 2] {
+    [Some(1), None].map(|waiting| lost_after(5, waiting, |lent| lent.control(0x40)))
+}
+
+#[test]
+fn fault_43_a_pair_counts() {
+    shows(faults::PAIR_COUNTS, lost_by_control, [5, 5], [6, 5]);
+}
+
+#[test]
+fn fault_44_a_first_byte_counts() {
+    shows(faults::FIRST_BYTE_COUNTS, lost_by_control, [5, 5], [5, 6]);
+}
+
+#[test]
+fn faults_45_to_47_a_call_forgets() {
+    for (fault, wrong) in [
+        (faults::DATA_WRITE_FORGETS_COUNT, [5, 6, 6]),
+        (faults::DATA_READ_FORGETS_COUNT, [6, 5, 6]),
+        (faults::STATUS_READ_FORGETS_COUNT, [6, 6, 5]),
+    ] {
+        shows(fault, || lost_after_each(5, Some(1)), [6; 3], wrong);
+    }
+}
+
+#[test]
+fn fault_48_nothing_waits() {
+    let fault = faults::COUNTS_WITHOUT_WAITING;
+    shows(fault, || lost_after_each(5, None), [5; 3], [6; 3]);
+    shows(fault, || lost_after_each(5, Some(1)), [6; 3], [6; 3]);
+}
+
+/// The count after a reset with a byte waiting and with none.
+fn lost_by_reset() -> [u16; 2] {
+    [Some(1), None].map(|waiting| lost_after(5, waiting, |lent| vdp_reset(&mut lent.block)))
+}
+
+#[test]
+fn fault_49_a_reset_keeps_the_count() {
+    shows(faults::RESET_KEEPS_COUNT, lost_by_reset, [0, 0], [5, 5]);
+}
+
+#[test]
+fn fault_50_a_reset_counts() {
+    shows(faults::RESET_COUNTS, lost_by_reset, [0, 0], [1, 0]);
+}
+
+#[test]
+fn fault_51_a_snapshot_keeps_the_count() {
+    let case = || lost_after(5, Some(1), Lent::read_snapshot);
+    shows(faults::SNAPSHOT_KEEPS_COUNT, case, 0, 5);
+}
+
+#[test]
+fn fault_52_high_byte_first() {
+    let case = || {
+        let mut lent = board(0, &[]);
+        lent.control(1);
+        lent.read_status();
+        [lent.block[15], lent.block[16]]
+    };
+    shows(faults::COUNT_HIGH_FIRST, case, [1, 0], [0, 1]);
+}
+
+#[test]
+fn fault_53_a_run_keeps_the_count() {
+    let fault = faults::RUN_KEEPS_COUNT;
+    let case = || {
+        let mut lent = board(0, &[]);
+        lent.set_lost(5);
+        lent.run(&[(1, 1), (3, 0), (1, 1), (3, 0)]);
+        lent.lost()
+    };
+    shows(fault, case, 7, 5);
+    shows(fault, || lost_after_each(5, Some(1)), [6; 3], [6; 3]);
+}

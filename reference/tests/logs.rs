@@ -9,7 +9,7 @@ use reference::replay;
 /// A state in which every operation changes something.
 fn board() -> Lent {
     let mut lent = sprite_board(0x20);
-    lent.block[8..15].copy_from_slice(&[0x34, 0x12, 0x56, 1, 0x81, 0xE7, 0]);
+    lent.block[8..].copy_from_slice(&[0x34, 0x12, 0x56, 1, 0x81, 0xE7, 0, 0x9A, 0xBC]);
     for (at, byte) in lent.vram.iter_mut().enumerate().skip(0x2040) {
         *byte = (at * 7 + at / 256) as u8;
     }
@@ -372,6 +372,7 @@ fn the_same_calls_made_singly() {
     for _ in 0..200 {
         let mut lent = board();
         lent.block[13] = random.byte();
+        lent.set_lost(random.lost());
         let mut alone = lent.clone();
         let count = random.below(60) as usize;
         let mut records: Vec<(u8, u8)> = (0..count).map(|_| some_record(&mut random)).collect();

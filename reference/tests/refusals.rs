@@ -124,9 +124,10 @@ const WAYS: usize = 12;
 
 fn wrong_length(slice: &mut Vec<u8>, way: usize) {
     let length = slice.len();
-    match way % 3 {
+    match way % 4 {
         0 => slice.truncate(length - 1),
         1 => slice.push(0),
+        2 => slice.truncate(length - 2),
         _ => slice.clear(),
     }
 }
@@ -263,7 +264,7 @@ fn harmed(harms: &[Harm], way: usize) -> Lent {
 /// A state in which every call would change something.
 fn good() -> Lent {
     let mut lent = Lent::with_registers([0, 0x60, 1, 2, 3, 4, 5, 6]);
-    lent.block[8..15].copy_from_slice(&[0x34, 0x12, 0x56, 1, 0x81, 0xE7, 0]);
+    lent.block[8..].copy_from_slice(&[0x34, 0x12, 0x56, 1, 0x81, 0xE7, 0, 0x9A, 0xBC]);
     lent.vram.fill(0x5A);
     lent.map.fill(0x01);
     lent.frame.fill(0xEE);

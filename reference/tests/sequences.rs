@@ -11,6 +11,7 @@ use std::collections::BTreeMap;
 /// VRAM in which many sprites cover many lines.
 fn busy(random: &mut Random) -> Lent {
     let mut lent = Lent::new();
+    lent.set_lost(random.lost());
     for byte in &mut lent.vram {
         *byte = random.byte();
     }
@@ -179,7 +180,7 @@ fn no_input_panics() {
             .collect::<Vec<u8>>()
     };
     for round in 0..300u32 {
-        let mut block = slice(15);
+        let mut block = slice(17);
         let (mut vram, mut map) = (slice(16384), slice(2048));
         let (mut frame, mut notes, mut line) = (slice(49152), slice(192), slice(256));
         let mut snapshot = slice(16406);
@@ -260,6 +261,25 @@ fn two_at_a_side(random: &mut Random) -> Lent {
     shapes_board(random.below(4) as u8, &sprites)
 }
 
+/// Calls on the ports from some count of lost first bytes, and a snapshot read.
+fn port_calls(random: &mut Random) -> (Vec<u32>, Lent) {
+    let mut lent = Lent::new();
+    lent.set_lost(random.lost());
+    let mut answers = Vec::new();
+    for _ in 0..random.below(12) {
+        let byte = random.byte();
+        answers.push(match random.below(12) {
+            0..=4 => lent.control(byte),
+            5 | 6 => lent.write(byte),
+            7 | 8 => lent.read(),
+            9 | 10 => lent.read_status(),
+            _ if random.chance(2) => lent.read_snapshot(),
+            _ => vdp_reset(&mut lent.block),
+        });
+    }
+    (answers, lent)
+}
+
 /// All that a list of calls with refreshes leaves and answers.
 fn trace(seed: u64) -> Vec<(Vec<u32>, Lent)> {
     let mut random = Random(seed);
@@ -297,6 +317,7 @@ fn trace(seed: u64) -> Vec<(Vec<u32>, Lent)> {
     for _ in 0..6 {
         let mut lent = two_at_a_side(&mut random);
         trace.push((vec![lent.full_draw()], lent));
+        trace.push(port_calls(&mut random));
     }
     trace
 }

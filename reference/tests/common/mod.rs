@@ -24,7 +24,7 @@ impl Lent {
     /// Power-up state, clean slices, and a right snapshot of it.
     pub fn new() -> Lent {
         let mut lent = Lent {
-            block: vec![0; 15],
+            block: vec![0; 17],
             vram: vec![0; 16384],
             map: vec![0; 2048],
             frame: vec![0; 49152],
@@ -57,6 +57,22 @@ impl Lent {
         self.block[13]
     }
 
+    /// The count of lost first bytes, from its place in the block.
+    pub fn lost(&self) -> u16 {
+        u16::from(self.block[15]) + 256 * u16::from(self.block[16])
+    }
+
+    pub fn set_lost(&mut self, lost: u16) {
+        self.block[15] = (lost % 256) as u8;
+        self.block[16] = (lost / 256) as u8;
+    }
+
+    /// A byte waits, or none does.
+    pub fn set_waiting(&mut self, waiting: Option<u8>) {
+        self.block[11] = u8::from(waiting.is_some());
+        self.block[12] = waiting.unwrap_or(0);
+    }
+
     pub fn control(&mut self, byte: u8) -> u32 {
         vdp_control_write(&mut self.block, &self.vram, byte)
     }
@@ -73,6 +89,10 @@ impl Lent {
 
     pub fn read(&mut self) -> u32 {
         vdp_data_read(&mut self.block, &self.vram)
+    }
+
+    pub fn read_status(&mut self) -> u32 {
+        vdp_status_read(&mut self.block)
     }
 
     pub fn draw(&mut self, number: u32) -> u32 {
@@ -213,5 +233,14 @@ impl Random {
 
     pub fn chance(&mut self, one_in: u32) -> bool {
         self.below(one_in) == 0
+    }
+
+    /// A count of lost first bytes, mostly near the one at which it stops.
+    pub fn lost(&mut self) -> u16 {
+        match self.below(6) {
+            0 => 0,
+            1 => self.next() as u16,
+            _ => 65_533 + self.below(3) as u16,
+        }
     }
 }
