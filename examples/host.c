@@ -10,7 +10,9 @@
  * 2. An interrupt, in which the driver moves a sprite and writes a name. A refresh redraws the lines that this
  *    touches; a full draw into a second picture has to give the same.
  * 3. The driver scrolls, and the picture is held against the wanted one. A driver that leaves an old row standing
- *    is caught. */
+ *    is caught.
+ * 4. An interrupt comes while the driver writes a pair of control bytes. A driver that does not hold it off until the
+ *    pair is complete is caught: the interrupt routine reads status, which drops the first byte, and the chip counts it. */
 #include <stdio.h>
 #include <string.h>
 
@@ -43,11 +45,49 @@ static uint8_t value(uint32_t answer)
     return VDP_VALUE(answer);
 }
 
+/* The board's processor. It takes an interrupt behind any control byte, unless the driver holds interrupts off. */
+
+static int interrupts_off;       /* the driver holds interrupts off */
+static int bytes_to_display_end; /* the display ends behind so many more control bytes; 0: not while the driver writes */
+
+static void on_interrupt(struct chip *c);
+
+static void end_of_display(struct chip *c)
+{
+    value(vdp_end_of_display(c->block, sizeof c->block));
+}
+
+/* A first byte that waited is lost to the interrupt routine's status read. */
+static void take_interrupt(struct chip *c)
+{
+    unsigned lost = VDP_LOST(c->block);
+    if (interrupts_off || value(vdp_interrupt_line(c->block, sizeof c->block)) == 0)
+        return;
+    on_interrupt(c);
+    if (VDP_LOST(c->block) > lost)
+        printf("the interrupt routine read status between two control bytes\n");
+}
+
+static void disable_interrupts(void)
+{
+    interrupts_off = 1;
+}
+
+/* An interrupt that was held off comes now. */
+static void enable_interrupts(struct chip *c)
+{
+    interrupts_off = 0;
+    take_interrupt(c);
+}
+
 /* The ports, as the board's processor sees them. */
 
 static void write_control(struct chip *c, uint8_t byte)
 {
     value(vdp_control_write(c->block, sizeof c->block, c->vram, sizeof c->vram, byte));
+    if (bytes_to_display_end > 0 && --bytes_to_display_end == 0)
+        end_of_display(c);
+    take_interrupt(c);
 }
 
 static void write_data(struct chip *c, uint8_t byte)
@@ -136,6 +176,16 @@ static void on_interrupt(struct chip *c)
     write_data(c, 120);
     write_from(c, NAMES + 3 * COLUMNS + 7);
     write_data(c, 2);
+}
+
+/* Another backdrop, while the display runs. Interrupts are held off from its first control byte to its second. */
+static void set_backdrop(struct chip *c, uint8_t colour, int hold_off)
+{
+    if (hold_off) /* the planted fault: they are left on */
+        disable_interrupts();
+    set_register(c, 7, colour);
+    if (hold_off)
+        enable_interrupts(c);
 }
 
 /* Scrolls up by a row: each row is read and written one higher, and the last one cleared. */
@@ -246,6 +296,19 @@ static int compare_scroll(const char *driver, int clear_last_row)
     return compare(&shown, &wanted, "the wanted picture");
 }
 
+/* The display ends between the two control bytes that set the backdrop. Gives how many first bytes were lost. (The second
+ * byte may wait as a first one then, and be the next to be lost.) */
+static unsigned interrupt_pair(const char *driver, int hold_off)
+{
+    static struct chip bench;
+    power_up(&bench);
+    open_screen(&bench);
+    bytes_to_display_end = 1;
+    set_backdrop(&bench, 6, hold_off);
+    printf("%s: register 7 is %d, first bytes lost: %u\n", driver, bench.block[7], VDP_LOST(bench.block));
+    return VDP_LOST(bench.block);
+}
+
 int main(void)
 {
     static struct chip bench;
@@ -256,9 +319,8 @@ int main(void)
     full_draw(&bench, &shown);
     printf("opening: line 80, column 100 has colour %d\n", shown.frame[PIXELS * 80 + 100]);
 
-    value(vdp_end_of_display(bench.block, sizeof bench.block));
-    if (value(vdp_interrupt_line(bench.block, sizeof bench.block)) == 1)
-        on_interrupt(&bench);
+    end_of_display(&bench);
+    take_interrupt(&bench);
     printf("interrupt: refresh redrew %d lines\n", refresh(&bench, &shown));
     if (compare_with_full_draw(&bench, &shown) != 0)
         trouble = 1;
@@ -267,6 +329,11 @@ int main(void)
         trouble = 1;
     if (compare_scroll("scroll that forgets the last row", 0) == 0)
         trouble = 1;
-    printf(trouble ? "something is wrong\n" : "the driver's fault was caught\n");
+
+    if (interrupt_pair("backdrop, interrupts held off", 1) != 0)
+        trouble = 1;
+    if (interrupt_pair("backdrop, interrupts left on", 0) != 1)
+        trouble = 1;
+    printf(trouble ? "something is wrong\n" : "the driver's faults were caught\n");
     return trouble;
 }

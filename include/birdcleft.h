@@ -1,6 +1,6 @@
 /* Birdcleft: a proved model of the TMS9918A video display processor. examples/host.c shows it in use.
  *
- * The caller owns every byte. A call on the chip finds its state in a block of 15 bytes; reading and writing a log's
+ * The caller owns every byte. A call on the chip finds its state in a block of 17 bytes; reading and writing a log's
  * records needs none. Each call answers a number of two parts: its refusal number times 256, and below that what it
  * has to tell: a byte that was read, 1 for an interrupt line that is on, the count of lines that a refresh redrew, the
  * byte that a log's run found in place of the expected one, and 0 otherwise. A call that is refused leaves block and
@@ -17,7 +17,7 @@ extern "C" {
 
 /* How many bytes each slice has. */
 enum {
-    VDP_BLOCK_SIZE = 15,
+    VDP_BLOCK_SIZE = 17,
     VDP_VRAM_SIZE = 16384,
     VDP_MAP_SIZE = 2048,
     VDP_LINE_SIZE = 256,
@@ -58,16 +58,26 @@ enum {
 #define VDP_VALUE(answer) ((uint8_t)((answer) % 256u))
 
 /* The block: eight registers; the address, low byte first; the read buffer; 1 while a first control
- * byte waits, else 0; that byte, else 0; status; the redraw mark as 0 or 1.
+ * byte waits, else 0; that byte, else 0; status; the redraw mark as 0 or 1; the count of lost first bytes,
+ * low byte first.
  *
  * The map: bit i mod 8, from the least significant, of byte i / 8 is set once VRAM byte i has been written
  * through the data port. It may start with any bytes, because power-up sets the redraw mark. */
+
+/* The count of lost first bytes in a block, 0 to 65,535, as unsigned; the ports, below, tell what counts. The argument
+ * is evaluated twice. */
+#define VDP_LOST(block) ((block)[15] + 256u * (block)[16])
 
 /* The state becomes that of power-up, and VRAM is filled with zeros. The block may hold anything. */
 uint32_t vdp_power_up(uint8_t *block, size_t block_len, uint8_t *vram, size_t vram_len);
 
 /* The ports. The address is 0 to 16,383 and steps from 16,383 to 0. A first control byte that waits is dropped by a
- * data write, a data read, a status read and reset; power-up and reading a snapshot replace the whole state. */
+ * data write, a data read, a status read and reset; power-up and reading a snapshot replace the whole state.
+ *
+ * The count of lost first bytes tells of a driver whose control pairs are cut in two, as by an interrupt routine that
+ * reads status between the two bytes. A data write, a data read and a status read that drop a first byte count it, up
+ * to 65,535. Reset, power-up and reading a snapshot set the count to 0. No other call changes it, but the run of a log
+ * does what its single calls do. */
 
 /* A byte to the control port. With none waiting it waits, and nothing else changes. With byte a waiting, byte b
  * completes the pair: the address becomes (b mod 64) * 256 + a, also where a register is written. From hex 80 on
@@ -117,23 +127,23 @@ uint32_t vdp_full_draw(uint8_t *block, size_t block_len, const uint8_t *vram, si
  * changes one of them itself, or draws into another frame with the same map, it begins a new chain. */
 uint32_t vdp_refresh(uint8_t *block, size_t block_len, const uint8_t *vram, size_t vram_len, uint8_t *map, size_t map_len, uint8_t *frame, size_t frame_len, uint8_t *notes, size_t notes_len);
 
-/* Reset: registers 0 and 1 and status become 0, a first byte no longer waits, and the redraw mark is set. Registers 2
- * to 7, address and read buffer stay. */
+/* Reset: registers 0 and 1, status and the count of lost first bytes become 0, a first byte no longer waits, and the
+ * redraw mark is set. Registers 2 to 7, address and read buffer stay. */
 uint32_t vdp_reset(uint8_t *block, size_t block_len);
 
-/* The snapshot: 16,384 bytes of VRAM; the block without its redraw mark, 14 bytes; and a trailer of eight bytes,
- * numbers low byte first:
+/* The snapshot: 16,384 bytes of VRAM; the first 14 bytes of the block, which are all but the redraw mark and the count
+ * of lost first bytes; and a trailer of eight bytes, numbers low byte first:
  *   16398  56 31 (hex), the signature
- *   16400  0E 00        how far the block stands before the trailer: 14
+ *   16400  0E 00        how far those bytes stand before the trailer: 14
  *   16402  0E 40        how far VRAM stands before it: 16,398
  *   16404  the sum of the 16,404 bytes before it, these six of the trailer among them, modulo 65,536
  * At power-up the trailer is 56 31 0E 00 0E 40 E3 00. */
 
-/* State and VRAM from a snapshot, with the redraw mark set. The block may hold anything, and
- * VDP_ILL_FORMED speaks of the snapshot. */
+/* State and VRAM from a snapshot, with the redraw mark set and the count of lost first bytes 0. The block may hold
+ * anything, and VDP_ILL_FORMED speaks of the snapshot. */
 uint32_t vdp_read_snapshot(uint8_t *block, size_t block_len, uint8_t *vram, size_t vram_len, const uint8_t *snapshot, size_t snapshot_len);
 
-/* A snapshot of state and VRAM. */
+/* A snapshot of VRAM and state, without the redraw mark and the count of lost first bytes. */
 uint32_t vdp_write_snapshot(const uint8_t *block, size_t block_len, const uint8_t *vram, size_t vram_len, uint8_t *snapshot, size_t snapshot_len);
 
 /* The log: calls that a driver and its bench made, to be made again. A record is a byte for the operation and one for its

@@ -26,10 +26,18 @@ struct lent {
     uint8_t map[VDP_MAP_SIZE + 1];
 };
 
-/* Lengths of what is lent, the right one first. */
-static const size_t block_lens[] = { 15, 14, 16, 0 };
+/* Lengths of what is lent, the right one first. A block had 15 bytes before it had the count of lost first bytes. */
+static const size_t block_lens[] = { 17, 16, 18, 0, 15 };
 static const size_t vram_lens[] = { 16384, 16383, 16385, 0 };
 static const size_t map_lens[] = { 2048, 2047, 2049, 0 };
+enum { BLOCK_LENS = sizeof block_lens / sizeof block_lens[0] };
+
+/* The count of lost first bytes stands behind the redraw mark, low byte first. */
+static void put_lost(uint8_t *block, unsigned count)
+{
+    block[15] = (uint8_t)(count % 256);
+    block[16] = (uint8_t)(count / 256);
+}
 
 /* The ways in which the contents of a block can be wrong; the first leaves them right. */
 enum { WAYS = 11 };

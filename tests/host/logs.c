@@ -1,5 +1,6 @@
 /* The log calls from C: the run, against known bytes and against the same calls made singly, reading and writing a log's
- * records, each refusal number, the right one when two apply at once, and nothing changed after a refusal. */
+ * records, each refusal number, the right one when two apply at once, and nothing changed after a refusal. The folder with
+ * the sample logs is its argument. */
 #include "check.h"
 
 enum { LINE = 256, TRAILER = 4, MOST = 20000, LONGEST = 40004, FOREIGN = 0xEE };
@@ -42,14 +43,14 @@ static void put_trailer(uint8_t *bytes, size_t count)
 
 static uint32_t run(struct lent_run *r, const uint8_t *bytes, size_t count)
 {
-    return vdp_run_log(r->lent.block, 15, r->lent.vram, 16384, r->lent.map, 2048, r->line, 256, bytes, count, r->outcome, 4);
+    return vdp_run_log(r->lent.block, VDP_BLOCK_SIZE, r->lent.vram, 16384, r->lent.map, 2048, r->line, 256, bytes, count, r->outcome, 4);
 }
 
 /* A state in which every operation changes something: Graphics I, sprites with size and magnify, a first byte waiting,
- * and a read buffer that is not the byte which the next read fetches. */
+ * others lost (hex 2BFF, so that the next carries), and a read buffer that is not the byte which the next read fetches. */
 static void fill(struct lent_run *r)
 {
-    static const uint8_t block[VDP_BLOCK_SIZE] = { 0x00, 0xE3, 0x05, 0x80, 0x01, 0x20, 0x03, 0xF1, 0x34, 0x12, 0x99, 1, 0x55, 0x1F, 0 };
+    static const uint8_t block[VDP_BLOCK_SIZE] = { 0x00, 0xE3, 0x05, 0x80, 0x01, 0x20, 0x03, 0xF1, 0x34, 0x12, 0x99, 1, 0x55, 0x1F, 0, 0xFF, 0x2B };
     for (size_t i = 0; i < sizeof r->lent.vram; i++) r->lent.vram[i] = (uint8_t)(i * 7 + i / 256 + 1);
     for (size_t i = 0; i < sizeof r->lent.map; i++) r->lent.map[i] = (uint8_t)(i % 3);
     memcpy(r->lent.block, block, sizeof block);
@@ -62,13 +63,13 @@ static void fill(struct lent_run *r)
 static uint32_t single(struct lent_run *r, uint8_t operation, uint8_t value)
 {
     switch (operation) {
-    case VDP_LOG_DATA_WRITE: return vdp_data_write(r->lent.block, 15, r->lent.vram, 16384, r->lent.map, 2048, value);
-    case VDP_LOG_CONTROL_WRITE: return vdp_control_write(r->lent.block, 15, r->lent.vram, 16384, value);
-    case VDP_LOG_DATA_READ: return vdp_data_read(r->lent.block, 15, r->lent.vram, 16384);
-    case VDP_LOG_STATUS_READ: return vdp_status_read(r->lent.block, 15);
-    case VDP_LOG_DRAW_LINE: return vdp_draw_line(r->lent.block, 15, r->lent.vram, 16384, r->line, 256, value);
-    case VDP_LOG_END_OF_DISPLAY: return vdp_end_of_display(r->lent.block, 15);
-    default: return vdp_reset(r->lent.block, 15);
+    case VDP_LOG_DATA_WRITE: return vdp_data_write(r->lent.block, VDP_BLOCK_SIZE, r->lent.vram, 16384, r->lent.map, 2048, value);
+    case VDP_LOG_CONTROL_WRITE: return vdp_control_write(r->lent.block, VDP_BLOCK_SIZE, r->lent.vram, 16384, value);
+    case VDP_LOG_DATA_READ: return vdp_data_read(r->lent.block, VDP_BLOCK_SIZE, r->lent.vram, 16384);
+    case VDP_LOG_STATUS_READ: return vdp_status_read(r->lent.block, VDP_BLOCK_SIZE);
+    case VDP_LOG_DRAW_LINE: return vdp_draw_line(r->lent.block, VDP_BLOCK_SIZE, r->lent.vram, 16384, r->line, 256, value);
+    case VDP_LOG_END_OF_DISPLAY: return vdp_end_of_display(r->lent.block, VDP_BLOCK_SIZE);
+    default: return vdp_reset(r->lent.block, VDP_BLOCK_SIZE);
     }
 }
 
@@ -119,6 +120,7 @@ static int outcome_is(size_t done, size_t place)
 }
 
 static unsigned address(void) { return now.lent.block[8] + 256u * now.lent.block[9]; }
+static unsigned lost(void) { return VDP_LOST(now.lent.block); }
 
 /* One operation of each kind, by the bytes that it has to leave. */
 static void each_operation(void)
@@ -133,7 +135,7 @@ static void each_operation(void)
     before = now;
     check(RUNS("a data write", 0, 0xAA) == 0 && outcome_is(1, 1), "a data write: one done");
     check(now.lent.vram[0x1234] == 0xAA && now.lent.block[10] == 0xAA && address() == 0x1235, "a data write: VRAM, buffer, address");
-    check(now.lent.block[11] == 0 && now.lent.block[12] == 0, "a data write drops the first byte");
+    check(now.lent.block[11] == 0 && now.lent.block[12] == 0 && lost() == 0x2C00, "a data write drops the first byte, and counts it");
     before.lent.map[0x1234 / 8] |= 1 << 0x1234 % 8;
     check(memcmp(now.lent.map, before.lent.map, sizeof now.lent.map) == 0, "a data write: its map bit alone");
     before.lent.vram[0x1234] = 0xAA;
@@ -141,18 +143,18 @@ static void each_operation(void)
 
     fill(&now);
     check(RUNS("a control write", 1, 0x87) == 0 && outcome_is(1, 1), "a control write: one done");
-    check(now.lent.block[7] == 0x55 && address() == 0x0755 && now.lent.block[11] == 0 && now.lent.block[14] == 1, "it completes the pair that waited");
+    check(now.lent.block[7] == 0x55 && address() == 0x0755 && now.lent.block[11] == 0 && now.lent.block[14] == 1 && lost() == 0x2BFF, "it completes the pair that waited");
     check(RUNS("a first byte", 1, 0x87) == 0 && now.lent.block[11] == 1 && now.lent.block[12] == 0x87, "a first byte waits behind the run");
     check(RUNS("a pair over two runs", 1, 0x2F, 1, 0x10) == 0 && outcome_is(2, 2) && address() == 0x2F88 && now.lent.block[12] == 0x10, "a pair over two runs, and the next byte");
 
     fill(&now);
     check(RUNS("a data read", 2, 0x99) == 0 && outcome_is(1, 1), "a data read of the expected byte");
-    check(now.lent.block[10] == now.lent.vram[0x1234] && address() == 0x1235 && now.lent.block[11] == 0, "a data read: buffer, address, nothing waits");
+    check(now.lent.block[10] == now.lent.vram[0x1234] && address() == 0x1235 && now.lent.block[11] == 0 && lost() == 0x2C00, "a data read: buffer, address, nothing waits, one more lost");
 
     fill(&now);
     now.lent.block[13] = 0xFF;
     check(RUNS("a status read", 3, 0xFF) == 0 && outcome_is(1, 1), "a status read of the expected byte");
-    check(now.lent.block[13] == 0x1F && now.lent.block[11] == 0, "a status read: flags, nothing waits");
+    check(now.lent.block[13] == 0x1F && now.lent.block[11] == 0 && lost() == 0x2C00, "a status read: flags, nothing waits, one more lost");
 
     fill(&now);
     now.lent.block[13] = 0;
@@ -160,15 +162,15 @@ static void each_operation(void)
     memset(now.lent.vram + 0x2000, 0x4F, 32);
     check(RUNS("a line", 4, 1) == 0 && outcome_is(1, 1), "a line: one done");
     check(now.line[0] == 15 && now.line[255] == 15 && now.line[256] == FOREIGN, "a line: its colours");
-    check(now.lent.block[13] == 0x44 && now.lent.block[11] == 1, "a line: status, and the first byte still waits");
+    check(now.lent.block[13] == 0x44 && now.lent.block[11] == 1 && lost() == 0x2BFF, "a line: status, and the first byte still waits");
 
     fill(&now);
     check(RUNS("the end of active display", 5, 0) == 0 && outcome_is(1, 1), "the end of active display: one done");
-    check(now.lent.block[13] == 0x9F && now.lent.block[11] == 1, "the end of active display: F, and the first byte still waits");
+    check(now.lent.block[13] == 0x9F && now.lent.block[11] == 1 && lost() == 0x2BFF, "the end of active display: F, and the first byte still waits");
 
     fill(&now);
     check(RUNS("reset", 6, 0) == 0 && outcome_is(1, 1), "reset: one done");
-    check(now.lent.block[0] == 0 && now.lent.block[1] == 0 && now.lent.block[2] == 5 && now.lent.block[11] == 0 && now.lent.block[13] == 0 && now.lent.block[14] == 1, "reset: what it clears and sets");
+    check(now.lent.block[0] == 0 && now.lent.block[1] == 0 && now.lent.block[2] == 5 && now.lent.block[11] == 0 && now.lent.block[13] == 0 && now.lent.block[14] == 1 && lost() == 0, "reset: what it clears and sets");
 
     /* A log that cannot be written to. */
     static const uint8_t fixed[] = { 1, 0x42, 1, 0x40, 0, 0xAA, 6, 0, 0, 0 };
@@ -177,6 +179,33 @@ static void each_operation(void)
     check(run(&now, fixed, sizeof fixed) == 8 * 256, "a wrong trailer");
     static const uint8_t right[] = { 1, 0x42, 1, 0x40, 0, 0xAA, 6, 0, 0x2E, 0x01 };
     check(run(&now, right, sizeof right) == 0 && outcome_is(3, 3) && now.lent.vram[0x42] == 0xAA && address() == 0x43, "a right one");
+}
+
+/* The count of lost first bytes over several records. */
+static void losses(void)
+{
+    fill(&now);
+    vdp_power_up(now.lent.block, VDP_BLOCK_SIZE, now.lent.vram, 16384);
+    RUNS("a status read between two control bytes", 1, 0x34, 3, 0x00, 1, 0x52);
+    check(outcome_is(3, 3) && lost() == 1 && now.lent.block[11] == 1 && now.lent.block[12] == 0x52 && address() == 0, "one first byte lost, and the second byte waits as a first");
+    RUNS("data behind it", 0, 0x11, 0, 0x22, 2, 0x22);
+    check(lost() == 2 && now.lent.vram[0] == 0x11 && now.lent.vram[1] == 0x22, "the first data write loses that one too");
+    RUNS("pairs", 1, 0x34, 1, 0x52, 0, 0x33, 3, 0x00, 1, 0x34, 1, 0x12, 2, 0x33, 5, 0, 3, 0x80);
+    check(lost() == 2 && now.lent.vram[0x1234] == 0x33, "pairs that are not cut in two lose none");
+    RUNS("a read that differs", 1, 0x34, 3, 0x01, 1, 0x34, 3, 0x00);
+    check(outcome_is(2, 1) && lost() == 3, "the read that differs loses a byte, and no record is done behind it");
+    RUNS("reset with a first byte waiting", 1, 0x34, 6, 0);
+    check(lost() == 0, "reset: none lost");
+    RUNS("behind reset", 1, 0x34, 3, 0x00);
+    check(lost() == 1, "one lost since reset");
+
+    static uint8_t records[2 * MOST];
+    for (size_t i = 0; i < MOST; i++) records[2 * i] = i % 2 ? VDP_LOG_DATA_WRITE : VDP_LOG_CONTROL_WRITE, records[2 * i + 1] = (uint8_t)i;
+    fill(&now);
+    put_lost(now.lent.block, 65535 - 9999);
+    now.lent.block[11] = now.lent.block[12] = 0;
+    runs("10,000 lost, up to 65,535", records, MOST);
+    check(lost() == 65535, "10,000 lost, up to 65,535: it stops there");
 }
 
 /* A read in a run of 'count' records, at 'place'. Before it stand data writes of 11, 12 and so on, behind it others. */
@@ -230,8 +259,8 @@ static void line_slice(void)
 {
     static uint8_t first[LINE], second[LINE];
     fill(&alone);
-    vdp_draw_line(alone.lent.block, 15, alone.lent.vram, 16384, first, 256, 8);
-    vdp_draw_line(alone.lent.block, 15, alone.lent.vram, 16384, second, 256, 191);
+    vdp_draw_line(alone.lent.block, VDP_BLOCK_SIZE, alone.lent.vram, 16384, first, 256, 8);
+    vdp_draw_line(alone.lent.block, VDP_BLOCK_SIZE, alone.lent.vram, 16384, second, 256, 191);
     check(memcmp(first, second, LINE) != 0, "two lines that differ");
 
     fill(&now);
@@ -283,12 +312,12 @@ static void map_bits(void)
 }
 
 /* A random record; a read's value is what the read gives in 'alone', which makes the call. */
-static void put_random(uint8_t *record)
+static void put_random(uint8_t *record, int resets)
 {
     unsigned kind = below(16);
     record[0] = (uint8_t)(kind < 5 ? VDP_LOG_DATA_WRITE : kind < 9 ? VDP_LOG_CONTROL_WRITE : kind < 12 ? VDP_LOG_DATA_READ : kind < 13 ? VDP_LOG_STATUS_READ : kind < 14 ? VDP_LOG_DRAW_LINE : kind < 15 ? VDP_LOG_END_OF_DISPLAY : VDP_LOG_RESET);
-    /* A reset seldom, because it turns the display off. */
-    if (record[0] == VDP_LOG_RESET && below(8)) record[0] = VDP_LOG_CONTROL_WRITE;
+    /* A reset seldom, because it turns the display off and clears the count of lost first bytes. */
+    if (record[0] == VDP_LOG_RESET && (!resets || below(8))) record[0] = VDP_LOG_CONTROL_WRITE;
     record[1] = (uint8_t)(record[0] == VDP_LOG_DRAW_LINE ? below(192) : record[0] >= VDP_LOG_END_OF_DISPLAY ? 0 : below(256));
     uint32_t answer = single(&alone, record[0], record[1]);
     if (is_read(record[0])) record[1] = (uint8_t)answer;
@@ -299,7 +328,9 @@ static void random_logs(void)
 {
     static const size_t counts[] = { 0, 1, 2, 3, 255, 256, 257, 19999, 20000 };
     static uint8_t records[2 * MOST];
+    static const unsigned lost_before[] = { 65534, 65535, 0, 0x2BFF };
     static struct lent_run start, whole;
+    int rose = 0, stopped = 0;
     char what[96];
     for (int round = 0; round < 60; round++) {
         size_t count = round < 9 ? counts[round] : below(round % 5 ? 600 : MOST + 1);
@@ -307,12 +338,15 @@ static void random_logs(void)
         for (size_t i = 0; i < VDP_VRAM_SIZE; i++) start.lent.vram[i] = (uint8_t)(below(4) ? below(256) : 0);
         start.lent.block[1] = (uint8_t)(0xC0 + below(4));
         start.lent.block[14] = (uint8_t)below(2);
+        put_lost(start.lent.block, lost_before[round % 4]);
         alone = start;
-        for (size_t i = 0; i < count; i++) put_random(records + 2 * i);
+        for (size_t i = 0; i < count; i++) put_random(records + 2 * i, round % 3 == 0);
         now = start;
         snprintf(what, sizeof what, "round %d: %zu records", round, count);
         check(runs(what, records, count) == 0 && outcome_is(count, count), what);
         whole = now;
+        rose += lost() > lost_before[round % 4];
+        stopped += lost_before[round % 4] >= 65534 && lost() == 65535;
 
         size_t cut = count ? below((unsigned)count + 1) : 0;
         snprintf(what, sizeof what, "round %d: %zu records, cut at %zu", round, count, cut);
@@ -339,6 +373,7 @@ static void random_logs(void)
                 seen++;
             }
     }
+    check(rose > 10 && stopped > 10, "random logs that lose first bytes, and that lose more than are counted");
 }
 
 /* As many records as there can be: data writes, control pairs, and a wrong read at the very end. */
@@ -490,7 +525,7 @@ static const char *const names[] = { "run_log", "read_log", "write_log" };
 /* One call with one fault or two: the earlier number is told, and nothing changes. */
 static void refusal(enum call call, const struct fault *f, const struct fault *g)
 {
-    struct lengths l = { 16384, 15, 2048, 256, 4, GOOD_BYTES + TRAILER, GOOD_BYTES };
+    struct lengths l = { 16384, VDP_BLOCK_SIZE, 2048, 256, 4, GOOD_BYTES + TRAILER, GOOD_BYTES };
     unsigned want = numbers[f->kind] < numbers[g->kind] ? numbers[f->kind] : numbers[g->kind];
     uint32_t got;
     char what[128];
@@ -538,7 +573,7 @@ static void refusals(enum call call)
 {
     static const struct fault none = { NONE, 0 };
     fault_count = 0;
-    if (call == RUN) add(VRAM, 3), add(BLOCK, 3), add(MAP, 3), add(LINE_SLICE, 3), add(OUTCOME, 3), add(CONTENTS, WAYS - 1);
+    if (call == RUN) add(VRAM, 3), add(BLOCK, BLOCK_LENS - 1), add(MAP, 3), add(LINE_SLICE, 3), add(OUTCOME, 3), add(CONTENTS, WAYS - 1);
     add(LOG, sizeof log_lens / sizeof log_lens[0]);
     if (call != RUN) add(RECORD_BYTES, sizeof records_more / sizeof records_more[0]);
     if (call != WRITE) add(DISTANCE, SLIPS), add(SUM, SLIPS);
@@ -612,9 +647,49 @@ static void bounds(void)
     check(memcmp(&now, &before, sizeof now) == 0, "a line of 192 behind a read that differs: nothing is run");
 }
 
-int main(void)
+/* A file of the samples' folder. */
+static size_t load(const char *folder, const char *name, uint8_t *bytes, size_t room)
+{
+    char path[512];
+    snprintf(path, sizeof path, "%s/%s", folder, name);
+    FILE *file = fopen(path, "rb");
+    if (!file) return 0;
+    size_t count = fread(bytes, 1, room, file);
+    fclose(file);
+    return count;
+}
+
+/* A sample log from the sample of text, up to the read that differs: how many first bytes it loses, and the first record
+ * that loses one; where none does, the number of records. */
+static void sample(const char *folder, const char *name, size_t done, size_t place, unsigned count_lost, size_t loser)
+{
+    static uint8_t snapshot[VDP_SNAPSHOT_SIZE + 1], log[LONGEST + 1];
+    size_t log_len = load(folder, name, log, sizeof log), first = 0;
+    fill(&now);
+    check(load(folder, "text.snap", snapshot, sizeof snapshot) == VDP_SNAPSHOT_SIZE && log_len > TRAILER && log_len <= LONGEST, name);
+    check(vdp_read_snapshot(now.lent.block, VDP_BLOCK_SIZE, now.lent.vram, 16384, snapshot, VDP_SNAPSHOT_SIZE) == 0 && lost() == 0, name);
+    if (log_len < TRAILER) return;
+    size_t count = (log_len - TRAILER) / 2;
+    before = now;
+    runs(name, log, count);
+    check(memcmp(lent_log, log, log_len) == 0, name);
+    check(outcome_is(done, place) && lost() == count_lost, name);
+    while (first < count && VDP_REFUSAL(single(&before, log[2 * first], log[2 * first + 1])) == 0 && VDP_LOST(before.lent.block) == 0) first++;
+    check(first == loser, name);
+}
+
+/* Where the interrupt routine reads status between two control bytes, record 232, the first of them is lost; the second waits
+ * in its place, and the data write that follows loses it too. */
+static void samples(const char *folder)
+{
+    sample(folder, "driver.log", 450, 450, 0, 450);
+    sample(folder, "interrupted.log", 247, 246, 2, 232);
+}
+
+int main(int argc, char **argv)
 {
     each_operation();
+    losses();
     differing_reads();
     line_slice();
     map_bits();
@@ -623,6 +698,7 @@ int main(void)
     round_trips();
     for (int call = RUN; call <= WRITE; call++) refusals((enum call)call);
     bounds();
+    samples(argc > 1 ? argv[1] : "samples");
     check(VDP_RECORD_SIZE == 2 && VDP_LOG_TRAILER_SIZE == 4 && VDP_LOG_RECORDS_MAX == 20000 && VDP_LOG_SIZE_MAX == 40004 && VDP_OUTCOME_SIZE == 4, "the sizes in the header");
     check(VDP_LOG_FORM == 8 && VDP_LOG_RECORD == 9, "the refusals in the header");
     return finish("logs");
