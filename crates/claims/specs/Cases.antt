@@ -151,6 +151,7 @@ fiveSprites =
 abbrev pub withFive : List ℕ
 withFive = sets (sets (replicate 16384 0) 0x1000 fiveSprites) 0x1800 allSet
 
+-- The state before line 100 is drawn, with this status, and the state after it.
 abbrev pub spriteState : ℕ → Chip
 spriteState s =
     record { registers = spriteRegisters 0; address = 0x1234; buffer = 0x99; waiting = Nothing; status = s; redraw = false; lost = lostBefore }

@@ -1,4 +1,5 @@
 -- `load` meets its contract.
+use mathlib.Core.Path.{refl}
 use Rattle.chip.specs.Layout.{chipOf}
 use borrow.Author.Needs.{needs}
 use Rattle.chip.proofs.layout.load.Statement.{statement}
@@ -21,7 +22,7 @@ address-if-requires c κs = search needs
 
 returns : tie.Need-returns
 unfolding chipOf
-returns c = simp (c .address-if .ensures, c .before .before .decode .ensures, c .before .before .before .low-first-at .ensures)
+returns c = simp (c .address-if .ensures, c .before .before .decode .ensures, c .before .before .before .low-first-at .ensures) refl
 
 pub load-spec : {M : Type 1} → statement M
 load-spec =

@@ -1,12 +1,9 @@
 -- `read`: each test in turn, and what is decoded and copied past all of them.
 use Rattle.chip.specs.State.{wellFormed}
-use Rattle.chip.specs.Layout.{decoded}
-use Rattle.snapshot.specs.Tests.{stateBytes}
-use Prim.Native.Nat.{ℕ, _≤_}
+use Rattle.snapshot.specs.Tests.{heldState}
+use Prim.Native.Nat.{_≤_}
 use native.Mathlib.Omega.{arith}
 use mathlib.Core.Path.{_≡_, refl, sym, ap, _∙_}
-use mathlib.Core.Bool.{true}
-use mathlib.Core.List.{List}
 use lib.ListN.{length}
 use denote.Ref.{now}
 use borrow.Author.Tests.{eq-eqb, ne-eqb}
@@ -65,13 +62,13 @@ fourteen c =
 decode-requires : tie.Need-decode-requires
 decode-requires c κs = fourteen c
 
-next : (c : tie.After-decode) → c .decode .result ≡ decoded (stateBytes (now (c .before .before .before .before .before .before .before .before .before .before .args .snapshot))) true 0
-next c = c .decode .ensures ∙ ap (λ (b : List ℕ). decoded b true 0) (c .before .state-bytes .ensures)
+next : (c : tie.After-decode) → c .decode .result ≡ heldState (now (c .before .before .before .before .before .before .before .before .before .before .args .snapshot))
+next c = rw (c .before .state-bytes .ensures) at (c .decode .ensures)
 
 is-well-formed-requires : tie.Need-is-well-formed-requires
 is-well-formed-requires c κs = search needs
 
-formed : (c : tie.After-is-well-formed) → c .is-well-formed .result ≡ wellFormed (decoded (stateBytes (now (c .before .before .before .before .before .before .before .before .before .before .before .args .snapshot))) true 0)
+formed : (c : tie.After-is-well-formed) → c .is-well-formed .result ≡ wellFormed (heldState (now (c .before .before .before .before .before .before .before .before .before .before .before .args .snapshot)))
 formed c = c .is-well-formed .ensures ∙ ap wellFormed (next (c .before))
 
 refused-requires-5 : tie.Need-refused-requires-5

@@ -1,4 +1,5 @@
 -- `drop_first` meets its contract.
+use mathlib.Core.Path.{refl}
 use borrow.Author.Needs.{needs}
 use Rattle.chip.proofs.state.Chip.drop_first.Statement.{statement}
 use Rattle.chip.proofs.state.Chip.drop_first.Tie as tie
@@ -10,7 +11,7 @@ lost-by-requires : tie.Need-lost-by-requires
 lost-by-requires c κs = search needs
 
 returns : tie.Need-returns
-returns c = simp (c .lost-by .ensures, c .before .with-waiting .ensures)
+returns c = simp (c .lost-by .ensures, c .before .with-waiting .ensures) refl
 
 pub drop-first-spec : {M : Type 1} → statement M
 drop-first-spec = tie.close (tie.spec with-waiting-requires lost-by-requires returns)

@@ -6,7 +6,6 @@ use lib.ListN.{length, length-set, length-drop, drop}
 use mir.Val.{boolByte}
 use denote.Ref.{now}
 use Rattle.chip.specs.TwoBytes.{lowFirst}
-use Rattle.chip.specs.Layout.{encoded}
 use Rattle.chip.proofs.Laws.Lists.{set-rest}
 use borrow.Author.Needs.{needs}
 use Rattle.chip.proofs.state.Chip.store.Statement.{statement}
@@ -59,8 +58,8 @@ returns c =
     let s = c .before .before .before .before .before .before .before .before .before .args in
     let e = c .before .before .before .before .before .before .before .encode in
     let fourteen : length (e .result) ≡ 14 = search needs in
-    rw (c .before .before .before .copy .ensures, e .ensures, c .before .before .before .before .before .before .low-first .ensures)
-    (set-rest (encoded (s .self)) (drop 14 (now (s .b))) (boolByte (s .self .redraw) ∷ lowFirst (s .self .lost)) 14 (rw (e .ensures) at fourteen) (rw length-drop (omega arith)))
+    rw (c .before .before .before .copy .ensures, ← e .ensures, c .before .before .before .before .before .before .low-first .ensures)
+    (set-rest (e .result) (drop 14 (now (s .b))) (boolByte (s .self .redraw) ∷ lowFirst (s .self .lost)) 14 fourteen (rw length-drop (omega arith)))
 
 pub store-spec : {M : Type 1} → statement M
 store-spec =

@@ -29,7 +29,7 @@ same-length-2 : tie.Need-same-length-2
 same-length-2 c = search needs
 
 returns : tie.Need-returns
-returns c = (simp (c .before .drop-first .ensures, c .step .ensures), (refl, c .before .before .before .before .set-dirty .ensures))
+returns c = (simp (c .before .drop-first .ensures, c .step .ensures) refl, (refl, c .before .before .before .before .set-dirty .ensures))
 
 pub take-data-byte-spec : {M : Type 1} → statement M
 take-data-byte-spec =
