@@ -8,7 +8,7 @@ use Rattle.chip.specs.State.{vramSize, wellFormed}
 use Rattle.chip.specs.declared.state.Chip.{Chip}
 use Rattle.chip.specs.declared.refusal.Answer.{Answer}
 use Rattle.chip.specs.declared.refusal.Refusal.{Refusal}
-use Rattle.chip.specs.declared.refusal.Refusal.the-variants.{Accepted, VramLength, SliceLength, IllFormed, LineNumber, SnapshotLength, Trailer, Checksum, LogForm, LogRecord}
+use Rattle.chip.specs.declared.refusal.Refusal.the-variants.{Accepted, VramLength, SliceLength, IllFormed, LineNumber, SnapshotLength, Trailer, Checksum, LogForm, LogRecord, ColumnNumber}
 
 -- The number of each refusal.
 abbrev pub numberOf : Refusal → ℕ
@@ -22,13 +22,14 @@ numberOf Trailer = 6
 numberOf Checksum = 7
 numberOf LogForm = 8
 numberOf LogRecord = 9
+numberOf ColumnNumber = 13
 
 abbrev pub isAccepted : Refusal → Bool
 isAccepted r = eqb (numberOf r) 0
 
 -- Which refusal a call gives if several tests fail: the earliest in this list.
 abbrev pub order : List Refusal
-order = VramLength ∷ SliceLength ∷ SnapshotLength ∷ Trailer ∷ Checksum ∷ IllFormed ∷ LineNumber ∷ LogForm ∷ LogRecord ∷ []
+order = VramLength ∷ SliceLength ∷ SnapshotLength ∷ Trailer ∷ Checksum ∷ IllFormed ∷ LineNumber ∷ ColumnNumber ∷ LogForm ∷ LogRecord ∷ []
 
 -- A test that a call makes: the refusal that it gives where it does not pass.
 pub record Test : Type 0 where
@@ -50,6 +51,10 @@ stateTest c = record { refusal = IllFormed; passes = wellFormed c }
 -- The line number is at most 191.
 abbrev pub lineTest : ℕ → Test
 lineTest l = record { refusal = LineNumber; passes = leb l 191 }
+
+-- The column number is at most 255.
+abbrev pub columnTest : ℕ → Test
+columnTest x = record { refusal = ColumnNumber; passes = leb x 255 }
 
 -- Whether one of the tests gives the refusal r.
 abbrev pub gives : List Test → Refusal → Bool

@@ -14,6 +14,7 @@ pub enum Refusal {
     Checksum,
     LogForm,
     LogRecord,
+    ColumnNumber,
 }
 
 // The next state, why the call was refused if it was, and the byte or other number read.
@@ -38,6 +39,7 @@ impl Refusal {
             Refusal::Checksum => 7,
             Refusal::LogForm => 8,
             Refusal::LogRecord => 9,
+            Refusal::ColumnNumber => 13,
         }
     }
 }

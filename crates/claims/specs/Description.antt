@@ -35,7 +35,7 @@ pub record Takes : Type 0 where
   pub frame : Bool
   pub notes : Bool
 
--- What a call brings that is its own: bytes to write, slices to fill, a line's number, a snapshot, a log.
+-- What a call brings that is its own: bytes to write, slices to fill, numbers of a line and a column, a snapshot, a log.
 pub record Brings : Type 1 where
   -- The tests of it, which may look at the state too.
   pub tests : Chip → List Test

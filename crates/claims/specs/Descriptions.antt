@@ -5,11 +5,13 @@ use Rattle.chip.specs.State.{Bytes}
 use Rattle.chip.specs.Refusals.{sliceTest}
 use Rattle.chip.specs.Calls as chip
 use Rattle.scanline.specs.Calls as scanline
+use Rattle.point.specs.Calls as points
 use Rattle.frame.specs.Calls as frame
 use Rattle.snapshot.specs.Calls as snapshot
 use Rattle.log.specs.Run as logs
 use Rattle.birdcleft.specs.Calls as c-ports
 use Rattle.birdcleft.specs.Lines as c-lines
+use Rattle.birdcleft.specs.Points as c-points
 use Rattle.birdcleft.specs.Frames as c-frames
 use Rattle.birdcleft.specs.Snapshots as c-snapshots
 use Rattle.birdcleft.specs.Logs as c-logs
@@ -125,6 +127,17 @@ described (Op.drawLine line l) =
       throughC = λ block b.
           fills b (ofFromC (c-lines.drawLine block (b .vram) line l))
           (c-lines.drawLineLine block (b .vram) line l ∷ []);
+    }
+described (Op.point l x) =
+    record {
+      takes = vramAlone;
+      testsState = true;
+      brings = record { tests = λ c. points.pointOwnTests l x; slices = []; AreBytes = Unit {0} };
+      fromC = record { tests = []; NumbersFit = λ vram. Bytes vram };
+      numbers = 1;
+      establishes = false;
+      directly = λ b. answers b (ofAnswer (points.point (b .chip) (b .vram) l x));
+      throughC = λ block b. answers b (ofResult block (c-points.point block (b .vram) l x));
     }
 described Op.fullDraw =
     record {

@@ -35,6 +35,18 @@ module _ {A B : Type 0} where
   fetched-followed (answer a) k m = refl
   fetched-followed (fetch i next) k m = ap (λ (l : List ℕ). i ∷ l) (fetched-followed (next (getD m i 0)) k m)
 
+-- One description after another, and both answers joined.
+module _ {A B C : Type 0} (d : Fetch A) (e : Fetch B) (joined : A → B → C) (m : List ℕ) where
+  pub value-both : value (followed d λ a. followed e λ b. answer (joined a b)) m ≡ joined (value d m) (value e m)
+  unfolding value
+  value-both = value-followed d (λ a. followed e λ b. answer (joined a b)) m ∙ value-followed e (λ b. answer (joined (value d m) b)) m
+
+  pub fetched-both : fetched (followed d λ a. followed e λ b. answer (joined a b)) m ≡ fetched d m ++ fetched e m
+  unfolding fetched
+  fetched-both =
+      fetched-followed d (λ a. followed e λ b. answer (joined a b)) m
+      ∙ ap (λ (l : List ℕ). fetched d m ++ l) (fetched-followed e (λ b. answer (joined (value d m) b)) m ∙ append-nil (fetched e m))
+
 module _ {A : Type 0} (f : ℕ → Fetch A) (m : List ℕ) where
   -- the list of answers: its first, and the rest
   value-each : (i n : ℕ) → value (each i (suc n) f) m ≡ value (f i) m ∷ value (each (suc i) n f) m
@@ -49,7 +61,7 @@ module _ {A : Type 0} (f : ℕ → Fetch A) (m : List ℕ) where
   getD-each i (suc n) (suc k) d h =
       rw value-each (getD-each (suc i) n k d (le-of-suc-le-suc h) ∙ ap (λ (j : ℕ). value (f j) m) (suc-add i k ∙ sym (add-suc i k)))
 
-  fetched-each : (i n : ℕ) → fetched (each i (suc n) f) m ≡ fetched (f i) m ++ fetched (each (suc i) n f) m
+  pub fetched-each : (i n : ℕ) → fetched (each i (suc n) f) m ≡ fetched (f i) m ++ fetched (each (suc i) n f) m
   unfolding each value fetched
   fetched-each i n =
       fetched-followed (f i) (λ a. followed (each (suc i) n f) (λ l. answer (a ∷ l))) m

@@ -3,7 +3,7 @@
 use Prim.Native.Nat.{ℕ, zero, suc}
 use mathlib.Core.Path.{_≡_}
 use mathlib.Core.Bool.{Bool, false, _||_}
-use mathlib.Core.List.{List, [], _∷_}
+use mathlib.Core.List.{List, [], _∷_, List·Memᴰ}
 use lib.ListN.{getD}
 use Rattle.chip.specs.Map.{isDirty}
 
@@ -38,6 +38,10 @@ module _ {A : Type 0} where
 abbrev pub Agree : List ℕ → List ℕ → List ℕ → Type 0
 Agree [] m n = Unit {0}
 Agree (a ∷ l) m n = (getD m a 0 ≡ getD n a 0) × Agree l m n
+
+-- Each of these addresses is one of those.
+abbrev pub Among : List ℕ → List ℕ → Type 0
+Among these those = (a : ℕ) → List·Memᴰ a these → List·Memᴰ a those
 
 -- Whether one of these addresses is dirty: the map has its bit.
 abbrev pub anyDirty : List ℕ → List ℕ → Bool

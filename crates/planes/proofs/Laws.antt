@@ -2,5 +2,7 @@
 pub mod Cells
 pub mod Within
 pub mod Plane
+pub mod Column
+pub mod Small
 pub mod Painted
 pub mod Pixel

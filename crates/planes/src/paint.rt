@@ -8,7 +8,7 @@ ghost use Rattle.planes.specs.Painted.{Painted};
 use chip::bit;
 
 // One of two colours.
-fn choose(set: bool, one: u8, zero: u8) -> u8
+pub fn choose(set: bool, one: u8, zero: u8) -> u8
     ensures { λ r. ⌜ r ≡ cond set one zero ⌝ }
 {
     if set { one } else { zero }

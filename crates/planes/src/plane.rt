@@ -21,7 +21,7 @@ use crate::pixel::over;
 use chip::Mode;
 use chip::fill;
 
-fn cell_width(mode: Mode) -> usize
+pub fn cell_width(mode: Mode) -> usize
     ensures { λ n. ⌜ n ≡ cellWidth mode ⌝ }
 {
     match mode {
@@ -33,7 +33,7 @@ fn cell_width(mode: Mode) -> usize
     }
 }
 
-fn margin_of(mode: Mode) -> usize
+pub fn margin_of(mode: Mode) -> usize
     ensures { λ n. ⌜ n ≡ margin mode ⌝ }
 {
     match mode {

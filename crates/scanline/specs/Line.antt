@@ -41,9 +41,12 @@ lineIn m r l = followed (planeOf m r l) λ cells. followed (spritesOf m r l) λ 
 unfoldable pub lineOf : List ℕ → ℕ → Fetch Row
 lineOf r l = lineIn (modeOf r) r l
 
--- The colour at column x: sprites, pattern plane and backdrop settle it.
+-- What settles the colour at column x: the sprites that the scan found, the pattern plane's colour there, and what stands behind.
+abbrev pub settled : List ℕ → Found → ℕ → ℕ → ℕ
+settled r f plane x = pixelOf r (spriteColours r (f .sprites) (visible x)) plane
+
 unfoldable pub colourAt : List ℕ → Row → ℕ → ℕ
-colourAt r row x = pixelOf r (spriteColours r (row .found .sprites) (visible x)) (planeColour (modeOf r) (row .cells) x)
+colourAt r row x = settled r (row .found) (planeColour (modeOf r) (row .cells) x) x
 
 -- The 256 colours of a row.
 abbrev pub coloursOf : List ℕ → Row → List ℕ

@@ -6,5 +6,6 @@ mod note;
 
 pub use call::draw_line;
 pub use draw::draw_row;
+pub use draw::has_sprites;
 pub use due::line_dirty;
 pub use note::status_after;

@@ -11,3 +11,4 @@ pub mod Due
 pub mod Found
 pub mod Read
 pub mod Ended
+pub mod Small

@@ -1,4 +1,5 @@
 // The sprites of a line: the scan of the attribute table, the pixels of the drawn ones, and their coincidence.
+mod column;
 mod columns;
 mod draw;
 mod due;
@@ -8,6 +9,7 @@ mod scan;
 mod shape;
 mod sprite;
 
+pub use column::sprites_at;
 pub use draw::draw_sprites;
 pub use due::scan_dirty;
 pub use scan::Ended;

@@ -12,7 +12,7 @@ use crate::sprite::Sprite;
 use planes::over;
 
 // A colour where the bit is set, and 0 where it is not.
-fn front(set: bool, colour: u8) -> u8
+pub fn front(set: bool, colour: u8) -> u8
     ensures { λ c. ⌜ c ≡ cond set colour 0 ⌝ }
 {
     if set { colour } else { 0 }

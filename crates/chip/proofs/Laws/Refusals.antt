@@ -8,9 +8,9 @@ use lib.Dec.{eqb, lit≤}
 use Rattle.chip.specs.Refusals.{numberOf, isAccepted, order, Test, gives, firstGiven, refusalOf, ifAccepted}
 use Rattle.chip.proofs.Laws.Ranges.{and-false}
 use Rattle.chip.specs.declared.refusal.Refusal.{Refusal}
-use Rattle.chip.specs.declared.refusal.Refusal.the-variants.{Accepted, VramLength, SliceLength, IllFormed, LineNumber, SnapshotLength, Trailer, Checksum, LogForm, LogRecord}
+use Rattle.chip.specs.declared.refusal.Refusal.the-variants.{Accepted, VramLength, SliceLength, IllFormed, LineNumber, SnapshotLength, Trailer, Checksum, LogForm, LogRecord, ColumnNumber}
 
-pub number-small : (r : Refusal) → numberOf r ≤ 9
+pub number-small : (r : Refusal) → numberOf r ≤ 13
 number-small Accepted = lit≤ tt
 number-small VramLength = lit≤ tt
 number-small SliceLength = lit≤ tt
@@ -21,6 +21,7 @@ number-small Trailer = lit≤ tt
 number-small Checksum = lit≤ tt
 number-small LogForm = lit≤ tt
 number-small LogRecord = lit≤ tt
+number-small ColumnNumber = lit≤ tt
 
 -- a test that passes decides nothing
 pub passed : (t : Test) (ts : List Test) → t .passes ≡ true → refusalOf (t ∷ ts) ≡ refusalOf ts
@@ -45,6 +46,7 @@ is-accepted Trailer h = absurd (differ (sym h))
 is-accepted Checksum h = absurd (differ (sym h))
 is-accepted LogForm h = absurd (differ (sym h))
 is-accepted LogRecord h = absurd (differ (sym h))
+is-accepted ColumnNumber h = absurd (differ (sym h))
 
 -- what an accepted call leaves is the new
 module _ {A : Type 0} {r : Refusal} (ok : r ≡ Accepted) (new old : A) where
@@ -95,7 +97,7 @@ none-of ts [] n e = tt
 none-of ts (r ∷ rs) n e = let p = peel (gives ts r) r (firstGiven rs ts) (n .0) e in (p .0, none-of ts rs (n .1) (p .1))
 
 nothing-given : (ts : List Test) → isAccepted (refusalOf ts) ≡ true → (r : Refusal) → isAccepted r ≡ false → gives ts r ≡ false
-nothing-given ts e = by (none-of ts order (refl, (refl, (refl, (refl, (refl, (refl, (refl, (refl, (refl, tt))))))))) e)
+nothing-given ts e = by (none-of ts order (refl, (refl, (refl, (refl, (refl, (refl, (refl, (refl, (refl, (refl, tt)))))))))) e)
   where
     by : NoneGiven ts order → (r : Refusal) → isAccepted r ≡ false → gives ts r ≡ false
     by none Accepted n = absurd (differ n)
@@ -106,8 +108,9 @@ nothing-given ts e = by (none-of ts order (refl, (refl, (refl, (refl, (refl, (re
     by none Checksum n = none .1 .1 .1 .1 .0
     by none IllFormed n = none .1 .1 .1 .1 .1 .0
     by none LineNumber n = none .1 .1 .1 .1 .1 .1 .0
-    by none LogForm n = none .1 .1 .1 .1 .1 .1 .1 .0
-    by none LogRecord n = none .1 .1 .1 .1 .1 .1 .1 .1 .0
+    by none ColumnNumber n = none .1 .1 .1 .1 .1 .1 .1 .0
+    by none LogForm n = none .1 .1 .1 .1 .1 .1 .1 .1 .0
+    by none LogRecord n = none .1 .1 .1 .1 .1 .1 .1 .1 .1 .0
 
 passes-all : (ts : List Test) → AllRefuse ts → ((r : Refusal) → isAccepted r ≡ false → gives ts r ≡ false) → AllPass ts
 passes-all [] n h = tt

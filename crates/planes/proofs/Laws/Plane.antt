@@ -51,6 +51,10 @@ module _ (m : Mode) (r : List ℕ) (l : ℕ) (vram : List ℕ) where
         rest = λ x h below. rw e (getD-replicate 256 x (behindPlanes r) 0 below);
       }
 
+  -- cell i of all that were read
+  pub cell-read : (i : ℕ) → i < cellsIn m → getD (value (planeOf m r l) vram) i noCell ≡ value (cellOf m r l i) vram
+  cell-read i h = getD-each (cellOf m r l) vram 0 (cellsIn m) i noCell h ∙ ap (λ (j : ℕ). value (cellOf m r l j) vram) (zero-add i)
+
   -- one cell more
   pub shown-cell : {line new : List ℕ} {at : ℕ} (i : ℕ) → i < cellsIn m → at ≡ margin m + i * cellWidth m → Shown line colour (behindPlanes r) at → Painted new line at (cellWidth m) (λ k. over (pick (value (cellOf m r l i) vram) k) (behindPlanes r)) → Shown new colour (behindPlanes r) (at + cellWidth m)
   shown-cell {line} {new} {at} i h e s p = shown-more same s p
@@ -58,8 +62,7 @@ module _ (m : Mode) (r : List ℕ) (l : ℕ) (vram : List ℕ) where
       same : (k : ℕ) → k < cellWidth m → over (pick (value (cellOf m r l i) vram) k) (behindPlanes r) ≡ colour (at + k)
       same k hk =
           let x : at + k ≡ margin m + (i * cellWidth m + k) = omega arith in
-          let cell : getD (value (planeOf m r l) vram) i noCell ≡ value (cellOf m r l i) vram = getD-each (cellOf m r l) vram 0 (cellsIn m) i noCell h ∙ ap (λ (j : ℕ). value (cellOf m r l j) vram) (zero-add i) in
-          rw (x, in-cell m (value (planeOf m r l) vram) i k h hk, cell)
+          rw (x, in-cell m (value (planeOf m r l) vram) i k h hk, cell-read i h)
 
   -- all cells
   pub shown-plane : {line : List ℕ} → Shown line colour (behindPlanes r) (margin m + cellsIn m * cellWidth m) → line ≡ tabulate 256 colour

@@ -2,50 +2,43 @@
 use Prim.Native.Nat.{ℕ}
 use mathlib.Core.Path.{_≡_, refl, sym, ap, _∙_}
 use mathlib.Core.Bool.{false, _||_}
-use mathlib.Core.List.{List, [], _++_, append-nil}
+use mathlib.Core.List.{List, [], _++_}
 use lib.ListN.{getD}
 use Rattle.chip.specs.Lists.{tabulate}
 use Rattle.chip.specs.Modes.{modeOf}
 use Rattle.chip.specs.declared.mode.Mode.{Mode}
 use Rattle.chip.proofs.Laws.Lists.{tabulated, tabulate-same, getD-tabulate, length-tabulate}
 use Rattle.chip.proofs.Laws.Ranges.{none-holds}
-use Rattle.fetches.specs.Fetch.{answer, value, fetched, followed, anyDirty}
-use Rattle.fetches.proofs.Laws.{value-followed, fetched-followed, dirty-append}
+use Rattle.fetches.specs.Fetch.{value, fetched, anyDirty}
+use Rattle.fetches.proofs.Laws.{value-both, fetched-both, dirty-append}
 use Rattle.planes.specs.Cells.{planeOf}
 use Rattle.planes.specs.Plane.{planeColour}
 use Rattle.planes.specs.Pixel.{firstNonZero, pixelOf}
+use Rattle.planes.specs.declared.cell.Cell.{Cell}
 use Rattle.sprites.specs.Scan.{Found, fifthOf}
 use Rattle.sprites.specs.Pixels.{visible, spriteColours, reach, coincidence}
-use Rattle.scanline.specs.Line.{Row, noSprites, spritesOf, lineIn, lineOf, colourAt}
+use Rattle.scanline.specs.Line.{Row, noSprites, spritesOf, lineOf, settled, colourAt}
 use Rattle.scanline.specs.Notes.{noteBy, noteOf}
 use Rattle.scanline.specs.Calls.{noteAt, colours}
-
-module _ (m : Mode) (r : List ℕ) (l : ℕ) (vram : List ℕ) where
-  value-line : value (lineIn m r l) vram ≡ record { cells = value (planeOf m r l) vram; found = value (spritesOf m r l) vram }
-  unfolding value
-  value-line =
-      value-followed (planeOf m r l) (λ cells. followed (spritesOf m r l) λ f. answer (record { cells = cells; found = f })) vram
-      ∙ value-followed (spritesOf m r l) (λ f. answer (record { cells = value (planeOf m r l) vram; found = f })) vram
-
-  fetched-line : fetched (lineIn m r l) vram ≡ fetched (planeOf m r l) vram ++ fetched (spritesOf m r l) vram
-  unfolding value fetched
-  fetched-line =
-      fetched-followed (planeOf m r l) (λ cells. followed (spritesOf m r l) λ f. answer (record { cells = cells; found = f })) vram
-      ∙ ap (λ (t : List ℕ). fetched (planeOf m r l) vram ++ t)
-      (fetched-followed (spritesOf m r l) (λ f. answer (record { cells = value (planeOf m r l) vram; found = f })) vram ∙ append-nil (fetched (spritesOf m r l) vram))
 
 module _ (r : List ℕ) (l : ℕ) (vram : List ℕ) where
   abbrev m : Mode
   m = modeOf r
 
-  row-is : value (lineOf r l) vram ≡ record { cells = value (planeOf m r l) vram; found = value (spritesOf m r l) vram }
-  unfolding lineOf
-  row-is = value-line m r l vram
+  abbrev row : List Cell → Found → Row
+  row cells f = record { cells = cells; found = f }
 
-  -- the plane's bytes or the sprites'
-  pub line-fetches : (map : List ℕ) → anyDirty map (fetched (lineOf r l) vram) ≡ (anyDirty map (fetched (planeOf m r l) vram) || anyDirty map (fetched (spritesOf m r l) vram))
+  pub row-is : value (lineOf r l) vram ≡ row (value (planeOf m r l) vram) (value (spritesOf m r l) vram)
   unfolding lineOf
-  line-fetches map = ap (anyDirty map) (fetched-line m r l vram) ∙ dirty-append map (fetched (planeOf m r l) vram) (fetched (spritesOf m r l) vram)
+  row-is = value-both (planeOf m r l) (spritesOf m r l) row vram
+
+  -- the plane's bytes, and then the sprites'
+  pub fetched-line : fetched (lineOf r l) vram ≡ fetched (planeOf m r l) vram ++ fetched (spritesOf m r l) vram
+  unfolding lineOf
+  fetched-line = fetched-both (planeOf m r l) (spritesOf m r l) row vram
+
+  pub line-fetches : (map : List ℕ) → anyDirty map (fetched (lineOf r l) vram) ≡ (anyDirty map (fetched (planeOf m r l) vram) || anyDirty map (fetched (spritesOf m r l) vram))
+  line-fetches map = ap (anyDirty map) fetched-line ∙ dirty-append map (fetched (planeOf m r l) vram) (fetched (spritesOf m r l) vram)
 
   abbrev pub planeLine : List ℕ
   planeLine = tabulate 256 (λ x. pixelOf r [] (planeColour m (value (planeOf m r l) vram) x))
@@ -63,7 +56,7 @@ module _ (r : List ℕ) (l : ℕ) (vram : List ℕ) where
         ∙ tabulate-same 256
         (λ x h.
         ap (firstNonZero (spriteColours r (f .sprites) (visible x))) (ap (λ (s : List ℕ). getD s x 0) e ∙ getD-tabulate 256 _ x h)
-        ∙ sym (ap (λ (row : Row). pixelOf r (spriteColours r (row .found .sprites) (visible x)) (planeColour m (row .cells) x)) row-is ∙ ap (λ (g : Found). pixelOf r (spriteColours r (g .sprites) (visible x)) (planeColour m (value (planeOf m r l) vram) x)) found))
+        ∙ sym (ap (λ (shown : Row). colourAt r shown x) row-is ∙ ap (λ (g : Found). settled r g (planeColour m (value (planeOf m r l) vram) x) x) found))
 
   -- a line without sprites
   module _ (none : value (spritesOf m r l) vram ≡ noSprites) where

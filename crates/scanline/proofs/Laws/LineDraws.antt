@@ -44,11 +44,11 @@ still-formed s c ok = ok
 module _ (vram : List ℕ) (full : length vram ≡ 16384) where
   -- The draw of one line.
   module _ (c : Chip) (ok : wellFormed c ≡ true) (slice : List ℕ) (wide : length slice ≡ 256) (l : ℕ) (h : l < 192) where
-    line-accepted : drawLineRefusal c vram slice l ≡ Accepted
+    pub line-accepted : drawLineRefusal c vram slice l ≡ Accepted
     line-accepted =
         all-accepted (vramTest vram ∷ sliceTest 256 slice ∷ stateTest c ∷ lineTest l ∷ []) (eq-eqb _ _ full, (eq-eqb _ _ wide, (ok, (le-leb l 191 (omega arith), tt))))
 
-    line-drawn : drawLineLine c vram slice l ≡ colours (c .registers) vram l
+    pub line-drawn : drawLineLine c vram slice l ≡ colours (c .registers) vram l
     line-drawn = the-new line-accepted (colours (c .registers) vram l) slice
 
     state-drawn : drawLine c vram slice l .chip ≡ withStatus (statusAfter (c .status) (noteAt (c .registers) vram l)) c

@@ -1,0 +1,34 @@
+-- `in_cells` meets its contract.
+use Prim.Native.Nat.{_+_, _*_, _<_}
+use native.Mathlib.Omega.{arith}
+use Rattle.planes.proofs.Laws.Cells.{columns-within}
+use borrow.Author.Needs.{needs}
+use Rattle.planes.proofs.column.in_cells.Statement.{statement}
+use Rattle.planes.proofs.column.in_cells.Tie as tie
+
+-- the cells end within the line
+wide : (c : tie.After-cell-width) → c .before .before .margin-of .result + c .before .cells-in .result * c .cell-width .result < 257
+wide c = rw (c .before .before .margin-of .ensures, c .before .cells-in .ensures, c .cell-width .ensures) (columns-within (c .before .before .before .args .mode))
+
+margin-of-requires : tie.Need-margin-of-requires
+margin-of-requires c κs = search needs
+
+cells-in-requires : tie.Need-cells-in-requires
+cells-in-requires c κs = search needs
+
+cell-width-requires : tie.Need-cell-width-requires
+cell-width-requires c κs = search needs
+
+mul-end : tie.Need-mul-end
+mul-end c = omega (arith, wide c)
+
+add-end : tie.Need-add-end
+add-end c = omega (arith, wide c)
+
+returns : tie.Need-returns
+returns c = rw (c .before .before .margin-of .ensures, c .before .cells-in .ensures, c .cell-width .ensures)
+
+pub in-cells-spec : {M : Type 1} → statement M
+in-cells-spec =
+    tie.close
+    (tie.spec margin-of-requires cells-in-requires cell-width-requires mul-end add-end returns)

@@ -1,0 +1,59 @@
+-- `plane_at` meets its contract.
+use Prim.Native.Nat.{_<_}
+use native.Mathlib.Omega.{arith}
+use mathlib.Core.Path.{_≡_}
+use mathlib.Core.Bool.{true}
+use Rattle.chip.proofs.Laws.State.{taken-not, left-not}
+use Rattle.planes.specs.Plane.{inCells}
+use Rattle.planes.proofs.Laws.Column.{cell-one, pixel-one}
+use borrow.Author.Needs.{needs}
+use Rattle.planes.proofs.column.plane_at.Statement.{statement}
+use Rattle.planes.proofs.column.plane_at.Tie as tie
+
+-- a cell holds the column
+held : (c : tie.Else1) → inCells (c .before .before .before .before .args .mode) (c .before .before .before .before .args .x) ≡ true
+held c = left-not (c .before .in-cells .ensures) (c .if1 .left)
+
+behind-planes-requires : tie.Need-behind-planes-requires
+behind-planes-requires c κs = search needs
+
+in-cells-requires : tie.Need-in-cells-requires
+in-cells-requires c κs = search needs
+
+returns : tie.Need-returns
+returns c = rw (taken-not (c .before .in-cells .ensures) (c .if1 .taken)) (c .before .before .behind-planes .ensures)
+
+place-of-requires : tie.Need-place-of-requires
+place-of-requires c κs = held c
+
+cell-of-requires : tie.Need-cell-of-requires
+cell-of-requires c κs =
+    let s = c .before .before .before .before .before in
+    (s .pre .0, s .pre .1, s .pre .2, rw (c .place-of .ensures) (cell-one (s .args .mode) (s .args .x) (held (c .before))))
+
+pick-requires : tie.Need-pick-requires
+pick-requires c κs =
+    let s = c .before .before .before .before .before .before in
+    rw (c .before .place-of .ensures) (pixel-one (s .args .mode) (s .args .x))
+
+over-requires : tie.Need-over-requires
+over-requires c κs = search needs
+
+returns-2 : tie.Need-returns-2
+returns-2 c =
+    let p = c .before .before .before in
+    let s = p .before .before .before .before .before in
+    rw (held (p .before)) (rw (c .before .pick .ensures, c .before .before .cell-of .ensures, p .place-of .ensures, p .before .before .before .behind-planes .ensures) at (c .over .ensures))
+
+pub plane-at-spec : {M : Type 1} → statement M
+plane-at-spec =
+    tie.close
+    (tie.spec
+    behind-planes-requires
+    in-cells-requires
+    returns
+    place-of-requires
+    cell-of-requires
+    pick-requires
+    over-requires
+    returns-2)

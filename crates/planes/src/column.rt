@@ -1,0 +1,78 @@
+// The pattern plane at one column. Of the line's cells it reads the one that holds the column, and no other.
+ghost use mathlib.Core.Path.{_≡_};
+ghost use mathlib.Core.Bool.{true};
+ghost use mathlib.Core.List.{[]};
+ghost use Prim.Native.Nat.{_<_};
+ghost use lib.ListN.{length};
+ghost use Rattle.chip.specs.State.{masked};
+ghost use Rattle.fetches.specs.Fetch.{value};
+ghost use Rattle.planes.specs.Plane as plane;
+ghost use Rattle.planes.specs.Pixel.{pixelOf};
+use crate::address::cells_in;
+use crate::cell::Cell;
+use crate::cell::cell_of;
+use crate::paint::choose;
+use crate::pixel::behind_planes;
+use crate::pixel::over;
+use crate::plane::cell_width;
+use crate::plane::margin_of;
+use chip::Mode;
+use chip::bit;
+
+// Whether a cell holds column x.
+fn in_cells(mode: Mode, x: usize) -> bool
+    ensures { λ b. ⌜ b ≡ plane.inCells mode x ⌝ }
+{
+    let first = margin_of(mode);
+    let end = first + cells_in(mode) * cell_width(mode);
+    (first <= x) & (x < end)
+}
+
+// Which cell of a line, and which pixel of it, from the left.
+struct Place {
+    cell: usize,
+    pixel: usize,
+}
+
+// Where column x lies, which a cell holds. With the divisors written out the compiler has no division to make.
+fn place_of(mode: Mode, x: usize) -> Place
+    requires { ⌜ plane.inCells mode x ≡ true ⌝ }
+    ensures { λ p. ⌜ p ≡ record { cell = plane.cellAt mode x; pixel = plane.pixelAt mode x } ⌝ }
+{
+    let d = x - margin_of(mode);
+    let width = cell_width(mode);
+    if width == 8 {
+        return Place {
+            cell: d / 8,
+            pixel: d % 8,
+        };
+    }
+    Place {
+        cell: d / 6,
+        pixel: d % 6,
+    }
+}
+
+// Pixel k of a cell.
+fn pick(cell: Cell, k: usize) -> u8
+    requires { ⌜ k < 8 ⌝ }
+    ensures { λ c. ⌜ c ≡ plane.pick cell k ⌝ }
+{
+    let one = cell.colours / 16;
+    let zero = cell.colours % 16;
+    choose(bit(cell.pattern, (7 - k) as u8), one, zero)
+}
+
+// The plane's colour at column x of line l, over what stands behind it.
+pub fn plane_at(mode: Mode, r: [u8; 8], vram: &[u8], l: usize, x: usize) -> u8
+    requires { ⌜ (masked r ≡ true) × (length (now vram) ≡ 16384) × (l < 192) ⌝ }
+    ensures { λ c. ⌜ c ≡ pixelOf r [] (plane.cellColour mode (value (plane.cellHolding mode r l x) (now (vram .entry))) x) ⌝ }
+{
+    let behind = behind_planes(r);
+    if !in_cells(mode, x) {
+        return behind;
+    }
+    let place = place_of(mode, x);
+    let cell = cell_of(mode, r, vram, l, place.cell);
+    over(pick(cell, place.pixel), behind)
+}

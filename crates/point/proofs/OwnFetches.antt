@@ -1,0 +1,48 @@
+-- A point depends on its own fetches alone, and they are among those of its line.
+--
+-- The fetches are those of its description at one VRAM: of the cell that holds the column, if one does, and of the sprites of the
+-- line. Where they stand can depend on VRAM (a name says where its pattern is), so they are taken at one of the two VRAMs, and found
+-- to be the same at the other. This is the law of descriptions, whatever they read.
+use Prim.Native.Nat.{ℕ}
+use mathlib.Core.Path.{_≡_, sym, ap, _∙_}
+use mathlib.Core.Bool.{Bool}
+use mathlib.Core.List.{List, _++_, _∷_}
+use lib.Dec.{eqb}
+use lib.ListN.{length}
+use Rattle.chip.specs.Modes.{modeOf}
+use Rattle.chip.specs.Refusals.{stateTest, refusalOf, answered}
+use Rattle.chip.specs.State.{vramSize}
+use Rattle.chip.specs.declared.state.Chip.{Chip}
+use Rattle.chip.specs.declared.refusal.Refusal.the-variants.{VramLength}
+use Rattle.fetches.specs.Fetch.{fetched, Agree, Among}
+use Rattle.fetches.proofs.Laws.{same-value, same-fetched}
+use Rattle.fetches.proofs.Among.{among-append}
+use Rattle.planes.specs.Cells.{planeOf}
+use Rattle.planes.specs.Plane.{cellHolding}
+use Rattle.planes.proofs.Laws.Column.{fetched-alone}
+use Rattle.scanline.specs.Line.{spritesOf, lineOf}
+use Rattle.scanline.proofs.Laws.Line.{fetched-line}
+use Rattle.point.specs.Point.{Spot, pointOf, colourOf}
+use Rattle.point.specs.Calls.{pointColour, pointOwnTests, point}
+use Rattle.point.proofs.Laws.Point.{fetched-point}
+
+-- Two VRAMs that agree at the fetches which the point makes at the first: it has the same colour and makes the same fetches at both.
+pub same-colour-and-fetches : (r : List ℕ) (l x : ℕ) (one other : List ℕ) → Agree (fetched (pointOf r l x) one) one other
+    → (pointColour r other l x ≡ pointColour r one l x) × (fetched (pointOf r l x) other ≡ fetched (pointOf r l x) one)
+same-colour-and-fetches r l x one other h =
+    (ap (λ (s : Spot). colourOf r s x) (same-value (pointOf r l x) one other h), same-fetched (pointOf r l x) one other h)
+
+-- So the call has the same answer, accepted or refused, if both have their length.
+pub same-answer : (c : Chip) (l x : ℕ) (one other : List ℕ) → length one ≡ vramSize → length other ≡ vramSize
+    → Agree (fetched (pointOf (c .registers) l x) one) one other → point c other l x ≡ point c one l x
+same-answer c l x one other full full-too h =
+    let long : eqb (length other) vramSize ≡ eqb (length one) vramSize = ap (λ (n : ℕ). eqb n vramSize) (full-too ∙ sym full) in
+    let colour = same-colour-and-fetches (c .registers) l x one other h .0 in
+    λ i. answered (refusalOf (record { refusal = VramLength; passes = long i } ∷ stateTest c ∷ pointOwnTests l x)) c c (colour i)
+
+-- Every byte that a point fetches is one that its line fetches: so it lies within VRAM, as those do.
+pub among-the-line : (r : List ℕ) (l x : ℕ) (vram : List ℕ) → Among (fetched (pointOf r l x) vram) (fetched (lineOf r l) vram)
+among-the-line r l x vram =
+    let m = modeOf r in
+    rw (fetched-point r l x vram, fetched-line r l vram)
+    (among-append (fetched (cellHolding m r l x) vram) (fetched (planeOf m r l) vram) (fetched (spritesOf m r l) vram) (fetched-alone m r l vram x))

@@ -1,0 +1,88 @@
+-- `point` meets its contract.
+use native.Mathlib.Omega.{arith}
+use borrow.Author.Tests.{eq-eqb, ne-eqb, le-leb, lt-leb}
+use Rattle.chip.proofs.Laws.State.{taken-not, left-not, masked-in}
+use borrow.Author.Needs.{needs}
+use Rattle.point.proofs.call.point.Statement.{statement}
+use Rattle.point.proofs.call.point.Tie as tie
+
+refused-requires : tie.Need-refused-requires
+refused-requires c κs = search needs
+
+returns : tie.Need-returns
+returns c = rw (ne-eqb _ _ (c .before .if1 .taken)) (c .refused .ensures)
+
+is-well-formed-requires : tie.Need-is-well-formed-requires
+is-well-formed-requires c κs = search needs
+
+refused-requires-2 : tie.Need-refused-requires-2
+refused-requires-2 c κs = search needs
+
+returns-2 : tie.Need-returns-2
+returns-2 c =
+    let w = c .before .before in
+    rw (eq-eqb _ _ (w .before .if1 .left), taken-not (w .is-well-formed .ensures) (c .before .if2 .taken)) (c .refused2 .ensures)
+
+refused-requires-3 : tie.Need-refused-requires-3
+refused-requires-3 c κs = search needs
+
+returns-3 : tie.Need-returns-3
+returns-3 c =
+    let e = c .before .before in
+    let w = e .before in
+    rw (eq-eqb _ _ (w .before .if1 .left), left-not (w .is-well-formed .ensures) (e .if2 .left), lt-leb _ _ (c .before .if3 .taken)) (c .refused3 .ensures)
+
+refused-requires-4 : tie.Need-refused-requires-4
+refused-requires-4 c κs = search needs
+
+returns-4 : tie.Need-returns-4
+returns-4 c =
+    let l = c .before .before in
+    let e = l .before in
+    let w = e .before in
+    rw (eq-eqb _ _ (w .before .if1 .left), left-not (w .is-well-formed .ensures) (e .if2 .left), le-leb _ _ (l .if3 .left), lt-leb _ _ (c .before .if4 .taken)) (c .refused4 .ensures)
+
+cast-colour-of : tie.Need-cast-colour-of
+cast-colour-of c = search needs
+
+cast-colour-of-2 : tie.Need-cast-colour-of-2
+cast-colour-of-2 c = search needs
+
+colour-of-requires : tie.Need-colour-of-requires
+colour-of-requires c κs =
+    let l = c .before .before in
+    let e = l .before in
+    let w = e .before in
+    (masked-in _ (left-not (w .is-well-formed .ensures) (e .if2 .left)), w .before .if1 .left, omega (arith, l .if3 .left))
+
+accepted-requires : tie.Need-accepted-requires
+accepted-requires c κs = search needs
+
+returns-5 : tie.Need-returns-5
+returns-5 c =
+    let k = c .before in
+    let x = k .before .before in
+    let l = x .before in
+    let e = l .before in
+    let w = e .before in
+    rw (eq-eqb _ _ (w .before .if1 .left), left-not (w .is-well-formed .ensures) (e .if2 .left), le-leb _ _ (l .if3 .left), le-leb _ _ (x .if4 .left))
+    (rw (k .colour-of .ensures) at (c .accepted .ensures))
+
+pub point-spec : {M : Type 1} → statement M
+point-spec =
+    tie.close
+    (tie.spec
+    refused-requires
+    returns
+    is-well-formed-requires
+    refused-requires-2
+    returns-2
+    refused-requires-3
+    returns-3
+    refused-requires-4
+    returns-4
+    cast-colour-of
+    cast-colour-of-2
+    colour-of-requires
+    accepted-requires
+    returns-5)

@@ -1,0 +1,26 @@
+-- What a point reads, and the colour that it has. It reads by the registers, the line and the column alone.
+use Prim.Native.Nat.{ℕ}
+use mathlib.Core.List.{List}
+use Rattle.chip.specs.Modes.{modeOf}
+use Rattle.chip.specs.declared.mode.Mode.{Mode}
+use Rattle.fetches.specs.Fetch.{Fetch, answer, followed}
+use Rattle.planes.specs.Plane.{cellColour, cellHolding}
+use Rattle.planes.specs.declared.cell.Cell.{Cell}
+use Rattle.scanline.specs.Line.{spritesOf, settled}
+use Rattle.sprites.specs.Scan.{Found}
+
+-- What was read for a point: the cell that holds its column, if one does, and what the scan of its line found.
+pub record Spot : Type 0 where
+  pub cell : Cell
+  pub found : Found
+
+abbrev pub pointIn : Mode → List ℕ → ℕ → ℕ → Fetch Spot
+pointIn m r l x = followed (cellHolding m r l x) λ cell. followed (spritesOf m r l) λ f. answer (record { cell = cell; found = f })
+
+-- What the point at line l and column x reads: from this one description come both its colour and its fetches.
+unfoldable pub pointOf : List ℕ → ℕ → ℕ → Fetch Spot
+pointOf r l x = pointIn (modeOf r) r l x
+
+-- Its colour is settled as that of a drawn line's pixel is.
+unfoldable pub colourOf : List ℕ → Spot → ℕ → ℕ
+colourOf r spot x = settled r (spot .found) (cellColour (modeOf r) (spot .cell) x) x

@@ -1,0 +1,21 @@
+// The colour at a line and a column: of the line's cells that of the column alone is read, and of its sprites what the scan reads.
+ghost use mathlib.Core.Path.{_≡_};
+ghost use mathlib.Core.Bool.{true};
+ghost use Prim.Native.Nat.{_<_};
+ghost use lib.ListN.{length};
+ghost use Rattle.chip.specs.State.{masked};
+ghost use Rattle.point.specs.Calls.{pointColour};
+use scanline::has_sprites;
+
+pub fn colour_of(r: [u8; 8], vram: &[u8], l: u8, x: u8) -> u8
+    requires { ⌜ (masked r ≡ true) × (length (now vram) ≡ 16384) × (l < 192) ⌝ }
+    ensures { λ c. ⌜ c ≡ pointColour r (now (vram .entry)) l x ⌝ }
+{
+    let mode = chip::mode_of(r);
+    let plane = planes::plane_at(mode, r, vram, l as usize, x as usize);
+    if has_sprites(mode) {
+        let scan = sprites::scan_of(r, vram, l);
+        return sprites::sprites_at(r, scan, x as usize, plane);
+    }
+    plane
+}
