@@ -30,10 +30,9 @@ as-drawn c vram l x ok line wide =
     let p = all-pass (pointTests c vram l x) (refl, (refl, (refl, (refl, tt)))) (ap isAccepted ok) in
     let full = eqb-true _ _ (p .0) in
     let low = leb-true l 191 (p .1 .1 .0) in
-    let near = leb-true x 255 (p .1 .1 .1 .0) in
-    (
+    let near = leb-true x 255 (p .1 .1 .1 .0) in (
       line-accepted vram full c (p .1 .0) line wide l (omega arith),
       the-new ok (pointColour (c .registers) vram l x) 0
-      ∙ column (c .registers) vram l x (omega arith)
-      ∙ sym (ap (λ (s : List ℕ). getD s x 0) (line-drawn vram full c (p .1 .0) line wide l (omega arith)))
+          ∙ column (c .registers) vram l x (omega arith)
+          ∙ sym (ap (λ (s : List ℕ). getD s x 0) (line-drawn vram full c (p .1 .0) line wide l (omega arith))),
     )

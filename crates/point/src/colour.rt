@@ -14,8 +14,7 @@ pub fn colour_of(r: [u8; 8], vram: &[u8], l: u8, x: u8) -> u8
     let mode = chip::mode_of(r);
     let plane = planes::plane_at(mode, r, vram, l as usize, x as usize);
     if has_sprites(mode) {
-        let scan = sprites::scan_of(r, vram, l);
-        return sprites::sprites_at(r, scan, x as usize, plane);
+        return sprites::sprites_over(r, vram, l, x, plane);
     }
     plane
 }

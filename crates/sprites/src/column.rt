@@ -1,16 +1,22 @@
 // The sprites that a scan found, at one column of the screen.
 ghost use mathlib.Core.Path.{_≡_};
-ghost use mathlib.Core.Bool.{cond};
+ghost use mathlib.Core.Bool.{true, cond};
 ghost use Prim.Native.Nat.{_<_};
-ghost use lib.ListN.{take};
+ghost use lib.ListN.{length, take};
+ghost use Rattle.chip.specs.State.{masked};
+ghost use Rattle.fetches.specs.Fetch.{value};
 ghost use Rattle.planes.specs.Pixel.{firstNonZero};
 ghost use Rattle.sprites.specs.Pixels.{visible, hits, spriteColours};
+ghost use Rattle.sprites.specs.Scan.{scanOf};
 ghost use Rattle.sprites.specs.Scanned.{Held};
 use crate::columns::bit_at;
 use crate::paint::front;
 use crate::scan::Scan;
+use crate::scan::scan_of;
+use crate::shape::is_terminator;
 use crate::shape::side;
 use crate::sprite::Sprite;
+use crate::sprite::attribute_address;
 use planes::over;
 
 // A sprite's colour at column c, counted from 32 left of the screen, and 0 where it has no set bit.
@@ -29,7 +35,7 @@ fn colour_at(r: [u8; 8], s: Sprite, c: usize) -> u8
 
 // The colour at the screen's column x, over what stands behind the sprites there: the highest number first, so that a lower one
 // comes to lie in front.
-pub fn sprites_at(r: [u8; 8], scan: Scan, x: usize, behind: u8) -> u8
+fn sprites_at(r: [u8; 8], scan: Scan, x: usize, behind: u8) -> u8
     requires { ⌜ Held r scan × (x < 256) ⌝ }
     ensures { λ c. ⌜ c ≡ firstNonZero (spriteColours r (take (scan .drawn) (scan .sprites)) (visible x)) behind ⌝ }
 {
@@ -42,4 +48,17 @@ pub fn sprites_at(r: [u8; 8], scan: Scan, x: usize, behind: u8) -> u8
         colour = over(colour_at(r, s, x + 32), colour);
     }
     colour
+}
+
+// The same at line l, with the sprites read from VRAM. A picture without sprites has the terminator first, and needs no scan.
+pub fn sprites_over(r: [u8; 8], vram: &[u8], l: u8, x: u8, behind: u8) -> u8
+    requires { ⌜ (masked r ≡ true) × (length (now vram) ≡ 16384) ⌝ }
+    ensures { λ c. ⌜ c ≡ firstNonZero (spriteColours r (value (scanOf r l) (now (vram .entry)) .sprites) (visible x)) behind ⌝ }
+{
+    let y = vram[attribute_address(r, 0, 0)];
+    if is_terminator(y) {
+        return behind;
+    }
+    let scan = scan_of(r, vram, l);
+    sprites_at(r, scan, x as usize, behind)
 }

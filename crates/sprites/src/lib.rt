@@ -9,7 +9,7 @@ mod scan;
 mod shape;
 mod sprite;
 
-pub use column::sprites_at;
+pub use column::sprites_over;
 pub use draw::draw_sprites;
 pub use due::scan_dirty;
 pub use scan::Ended;

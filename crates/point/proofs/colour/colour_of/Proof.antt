@@ -31,19 +31,15 @@ plane-at-requires c κs = search needs
 has-sprites-requires : tie.Need-has-sprites-requires
 has-sprites-requires c κs = search needs
 
-scan-of-requires : tie.Need-scan-of-requires
-scan-of-requires c κs = search needs
-
-sprites-at-requires : tie.Need-sprites-at-requires
-sprites-at-requires c κs = search needs
+sprites-over-requires : tie.Need-sprites-over-requires
+sprites-over-requires c κs = search needs
 
 returns : tie.Need-returns
 returns c =
-    let s = c .before in
-    let h = s .before .before in
+    let h = c .before .before in
     let a = Args h .args in
-    let some : value (spritesOf (modeOf (a .r)) (a .r) (a .l)) (a .vram .now) ≡ value (scanOf (a .r) (a .l)) (a .vram .now) = rw (sym (shows h) ∙ s .before .if1 .taken) in
-    colour-over (a .r) (a .l) (a .x) (a .vram .now) some (rw (s .scan-of .ensures .sprites, plane (h .before)) at (c .sprites-at .ensures))
+    let some : value (spritesOf (modeOf (a .r)) (a .r) (a .l)) (a .vram .now) ≡ value (scanOf (a .r) (a .l)) (a .vram .now) = rw (sym (shows h) ∙ c .before .if1 .taken) in
+    colour-over (a .r) (a .l) (a .x) (a .vram .now) some (rw (plane (h .before)) at (c .sprites-over .ensures))
 
 returns-2 : tie.Need-returns-2
 unfolding value
@@ -60,7 +56,6 @@ colour-of-spec =
     mode-of-requires
     plane-at-requires
     has-sprites-requires
-    scan-of-requires
-    sprites-at-requires
+    sprites-over-requires
     returns
     returns-2)
