@@ -1,0 +1,4 @@
+-- Laws about the definitions of specs/.
+pub mod Arguments
+pub mod Names
+pub mod Output
