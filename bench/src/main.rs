@@ -149,11 +149,12 @@ fn control_pair(calls: &Calls, lent: &mut Picture) {
 /// What a point is to take at most, without sprites and with 32.
 const POINT_GOALS: [&str; 2] = ["3 data reads", "1 line"];
 
-/// A point, a data read and a line drawn, in turn. The last columns have the goal and, by best times, what there is of it.
+/// A point, a data read and a line drawn, in turn. The last columns have the best time of a point in those of the other two,
+/// and the goal.
 fn point_table() {
     println!(
         "{:48}{:>8}{:>9}{:>11}{:>9}{:>12}{:>10}{:>16}",
-        "points from C, in nanoseconds", "best", "median", "data read", "line", "data reads", "lines", "goal, at most"
+        "points from C, in nanoseconds", "best", "median", "data read", "line", "in reads", "in lines", "goal, at most"
     );
     for (mode, mode_name) in MODES.into_iter().enumerate() {
         for (sprites, goal) in POINT_GOALS.into_iter().enumerate() {
