@@ -7,8 +7,9 @@
  * The host owns the chip's bytes and the picture's and lends them to each call.
  *
  * 1. Power-up, the driver's opening sequence, and a full draw.
- * 2. An interrupt, in which the driver moves a sprite and writes a name. A refresh redraws the lines that this
- *    touches; a full draw into a second picture has to give the same.
+ * 2. An interrupt, in which the driver moves a sprite and writes a name. The bench's pointer finds the new colour before
+ *    anything is drawn. A refresh redraws the lines that this touches; a full draw into a second picture has to give the
+ *    same.
  * 3. The driver scrolls, and the picture is held against the wanted one. A driver that leaves an old row standing
  *    is caught.
  * 4. An interrupt comes while the driver writes a pair of control bytes. A driver that does not hold it off until the
@@ -216,6 +217,13 @@ static void power_up(struct chip *c)
     memset(c->map, 0, sizeof c->map);
 }
 
+/* The colour under the bench's pointer, from the chip as it is now. Nothing is drawn and status stays, so that the driver
+ * does not notice. */
+static int colour_at(const struct chip *c, int line, int column)
+{
+    return value(vdp_point(c->block, sizeof c->block, c->vram, sizeof c->vram, (uint32_t)line, (uint32_t)column));
+}
+
 /* Draws every line. */
 static void full_draw(struct chip *c, struct picture *p)
 {
@@ -321,7 +329,11 @@ int main(void)
 
     end_of_display(&bench);
     take_interrupt(&bench);
+    printf("interrupt: line 80, column 100 has colour %d in the picture, the pointer finds %d\n",
+           shown.frame[PIXELS * 80 + 100], colour_at(&bench, 80, 100));
     printf("interrupt: refresh redrew %d lines\n", refresh(&bench, &shown));
+    if (shown.frame[PIXELS * 80 + 100] != colour_at(&bench, 80, 100))
+        trouble = 1;
     if (compare_with_full_draw(&bench, &shown) != 0)
         trouble = 1;
 

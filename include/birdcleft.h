@@ -2,9 +2,10 @@
  *
  * The caller owns every byte. A call on the chip finds its state in a block of 17 bytes; reading and writing a log's
  * records needs none. Each call answers a number of two parts: its refusal number times 256, and below that what it
- * has to tell: a byte that was read, 1 for an interrupt line that is on, the count of lines that a refresh redrew, the
- * byte that a log's run found in place of the expected one, and 0 otherwise. A call that is refused leaves block and
- * slices as they were. Slices of one call do not overlap, and no pointer is null, also where a length is 0. */
+ * has to tell: a byte that was read, 1 for an interrupt line that is on, a point's colour, the count of lines that a
+ * refresh redrew, the byte that a log's run found in place of the expected one, and 0 otherwise. A call that is refused
+ * leaves block and slices as they were. Slices of one call do not overlap, and no pointer is null, also where a length
+ * is 0. */
 #ifndef BIRDCLEFT_H
 #define BIRDCLEFT_H
 
@@ -39,7 +40,7 @@ enum {
     VDP_LOG_SIZE_MAX = 40004
 };
 
-/* Refusal numbers. Where several fit, the answer is the earliest of 1, 2, 5, 6, 7, 3, 4, 8, 9. */
+/* Refusal numbers. Where several fit, the answer is the earliest of 1, 2, 5, 6, 7, 3, 4, 13, 8, 9. */
 enum {
     VDP_ACCEPTED = 0,
     VDP_VRAM_LENGTH = 1,     /* VRAM slice not 16,384 bytes */
@@ -50,7 +51,8 @@ enum {
     VDP_TRAILER = 6,         /* trailer's signature or a distance wrong */
     VDP_CHECKSUM = 7,        /* snapshot sum wrong */
     VDP_LOG_FORM = 8,        /* log or record bytes of wrong length, or the log's trailer wrong */
-    VDP_LOG_RECORD = 9       /* a record that is not allowed: its operation, or its value for that operation */
+    VDP_LOG_RECORD = 9,      /* a record that is not allowed: its operation, or its value for that operation */
+    VDP_COLUMN_NUMBER = 13   /* column above 255 */
 };
 
 /* The parts of an answer. */
@@ -107,6 +109,11 @@ uint32_t vdp_interrupt_line(const uint8_t *block, size_t block_len);
  * coincidence sets hex 20. Two of the line's first four sprites coincide where set bits share a column, on the
  * screen or beside it, whatever their colours. Map, redraw mark and any frame stay as they are. */
 uint32_t vdp_draw_line(uint8_t *block, size_t block_len, const uint8_t *vram, size_t vram_len, uint8_t *line, size_t line_len, uint32_t number);
+
+/* The colour (0 to 15) of the point at line 0 to 191 and column 0 to 255: the byte that drawing this line would put
+ * there. Nothing is drawn, and status stays as it is. Of VRAM it needs the cell that the point lies in and what the
+ * line's sprites fetch, and no other byte. */
+uint32_t vdp_point(const uint8_t *block, size_t block_len, const uint8_t *vram, size_t vram_len, uint32_t line, uint32_t column);
 
 /* A frame has lines 0 to 191 end to end. Each line has a note: the number of its fifth sprite, or 32 if
  * there is none, plus 64 if sprites coincide.

@@ -3,17 +3,20 @@
 
 mod logs;
 mod pictures;
+mod points;
 mod timing;
 
 use difftest::library::{Calls, LIBRARY, REFERENCE};
 use difftest::show;
 use logs::{LOGS, RECORDS};
 use pictures::{picture, Picture, CHANGES, MODES, SPRITES};
-use timing::{in_turn, time};
+use points::{LINES, POINTS, READS};
+use timing::{all_in_turn, in_turn, time};
 
 const ROUNDS: usize = 2000;
 const SLOW_ROUNDS: usize = 20;
 const LOG_ROUNDS: usize = 500;
+const POINT_ROUNDS: usize = 500;
 const SHOWS: usize = 200;
 const MEMSETS: usize = 16;
 
@@ -21,6 +24,7 @@ fn main() {
     draw_table();
     refresh_table();
     port_table();
+    point_table();
     log_table();
     show_table();
 }
@@ -140,6 +144,34 @@ fn data_write(calls: &Calls, lent: &mut Picture) {
 fn control_pair(calls: &Calls, lent: &mut Picture) {
     (calls.control_write)(&mut lent.block, &lent.vram, 0x34);
     (calls.control_write)(&mut lent.block, &lent.vram, 0x52);
+}
+
+/// What a point is to take at most, without sprites and with 32.
+const POINT_GOALS: [&str; 2] = ["3 data reads", "1 line"];
+
+/// A point, a data read and a line drawn, in turn. The last columns have the best time of a point in those of the other two,
+/// and the goal.
+fn point_table() {
+    println!(
+        "{:48}{:>8}{:>9}{:>11}{:>9}{:>12}{:>10}{:>16}",
+        "points from C, in nanoseconds", "best", "median", "data read", "line", "in reads", "in lines", "goal, at most"
+    );
+    for (mode, mode_name) in MODES.into_iter().enumerate() {
+        for (sprites, goal) in POINT_GOALS.into_iter().enumerate() {
+            let mut on = points::bench(mode, sprites);
+            let [point, read, line] =
+                all_in_turn(POINT_ROUNDS, &mut on, [points::points, points::reads, points::lines]);
+            let (best, read, line) = (point.best / POINTS as f64, read.best / READS as f64, line.best / LINES as f64);
+            println!(
+                "{:48}{best:>8.2}{:>9.2}{read:>11.2}{line:>9.1}{:>12.2}{:>10.3}{goal:>16}",
+                format!("{mode_name}, {}", SPRITES[sprites]),
+                point.median / POINTS as f64,
+                best / read,
+                best / line
+            );
+        }
+    }
+    println!();
 }
 
 /// A log's run and the same calls made singly, in turn. The last column is to be at most 1.

@@ -28,6 +28,18 @@ pub fn in_turn<T>(
     (summed(firsts), summed(seconds))
 }
 
+/// Several things in turn.
+pub fn all_in_turn<T, const N: usize>(rounds: usize, on: &mut T, what: [fn(&mut T); N]) -> [Times; N] {
+    what.iter().for_each(|each| each(on));
+    let mut times: [Vec<f64>; N] = std::array::from_fn(|_| Vec::with_capacity(rounds));
+    for _ in 0..rounds {
+        for (each, taken) in what.iter().zip(&mut times) {
+            taken.push(once(1, || each(on)));
+        }
+    }
+    times.map(summed)
+}
+
 fn once(in_a_row: usize, mut what: impl FnMut()) -> f64 {
     let start = Instant::now();
     for _ in 0..in_a_row {
