@@ -23,6 +23,7 @@ use Rattle.snapshot.specs.Format.{snapshotSize}
 use Rattle.snapshot.specs.Calls.{outputTests}
 use Rattle.birdcleft.specs.Calls.{controlWrite, dataWrite, dataRead, statusRead, endOfDisplay, interruptLine, reset}
 use Rattle.birdcleft.specs.Lines.{drawLine}
+use Rattle.birdcleft.specs.Points.{point}
 use Rattle.birdcleft.specs.Frames.{fullDraw, refresh}
 use Rattle.birdcleft.specs.Snapshots.{writeSnapshot}
 use Rattle.birdcleft.specs.Logs.{outcomeSize, runLog}
@@ -88,7 +89,7 @@ module _ (block : List ℕ) (unencoded : NoState block) where
       by : {r : Refusal} → r ≡ IllFormed → numberOf r * 256 + ifAccepted r number 0 ≡ refused
       by e = rw e
 
--- So each of the twelve calls from C that test the state refuses such a block, if every list that it is lent has its length,
+-- So each of the thirteen calls from C that test the state refuses such a block, if every list that it is lent has its length,
 -- and the line number is at most 191. (Power-up and reading a snapshot replace the state.)
 module _ (block : List ℕ) (unencoded : NoState block) (seventeen : length block ≡ blockSize) where
   refuses : (ts : List Test) → AllPass ts → (number : ℕ) → order.resultAfter (sliceTest blockSize block ∷ (ts ++ (stateTest (chipOf block) ∷ []))) number ≡ refused
@@ -120,6 +121,12 @@ module _ (block : List ℕ) (unencoded : NoState block) (seventeen : length bloc
     draw-line-refused line l fits within =
         order.draw-line-order block vram line l
         ∙ with-vram (drawLineOwnTests line l) (eq-eqb _ _ fits, (le-leb _ _ within, tt)) _
+
+    -- The tests of the two numbers come later, and do not matter.
+    pub point-refused : (l x : ℕ) → point block vram l x ≡ refused
+    point-refused l x =
+        order.point-order block vram l x
+        ∙ rw (eq-eqb (length vram) vramSize long, eq-eqb (length block) blockSize seventeen, no-state block unencoded)
 
     pub write-snapshot-refused : (out : List ℕ) → length out ≡ snapshotSize → writeSnapshot block vram out ≡ refused
     write-snapshot-refused out fits = order.write-snapshot-order block vram out ∙ with-vram (outputTests out) (eq-eqb _ _ fits, tt) _

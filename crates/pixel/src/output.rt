@@ -3,18 +3,15 @@ ghost use mathlib.Core.Path.{_≡_};
 ghost use Prim.Native.Nat.{_≤_};
 ghost use lib.ListN.{length};
 ghost use Rattle.chip.specs.Lists.{putAt};
-ghost use Rattle.chip.specs.Refusals.{numberOf};
-ghost use Rattle.text.specs.Lines.{refusedText};
 ghost use Rattle.pixel.specs.Output.{colourText, pointText, pixelOutput};
 use crate::arguments::number_in;
 use crate::arguments::rightly_called;
 use crate::names::put_name;
 use chip::Chip;
-use chip::Refusal;
 use chip::put;
 use point::point;
 use text::put_decimal;
-use text::put_refused;
+use text::put_refusal;
 
 // A colour's number and name.
 fn put_colour(out: &mut [u8], colour: u8) -> usize
@@ -28,16 +25,6 @@ fn put_colour(out: &mut [u8], colour: u8) -> usize
     let c = put_name(out, b, colour);
     let newline = [b'\n'];
     put(out, c, &newline)
-}
-
-// The line of a refusal.
-fn put_refusal(out: &mut [u8], refusal: Refusal) -> usize
-    requires { ⌜ 64 ≤ length (now out) ⌝ }
-    ensures { λ r. ⌜ r ≡ length (refusedText (numberOf refusal)) ⌝ }
-    ensures { λ _. ⌜ now (out .exit) ≡ putAt 0 (refusedText (numberOf refusal)) (now (out .entry)) ⌝ }
-{
-    let number = refusal.number() as u8;
-    put_refused(out, number)
 }
 
 // The colour at a line and a column, or the refusal of the point.

@@ -9,7 +9,7 @@ ghost use Rattle.replay.specs.Streams as streams;
 use crate::report::put_report;
 use chip::Chip;
 use chip::Refusal;
-use text::put_refused;
+use text::put_refusal;
 
 // How many bytes go to standard output, and to standard error.
 pub struct Written {
@@ -23,8 +23,7 @@ fn refuse(refusal: Refusal, errors: &mut [u8]) -> Written
     ensures { λ w. ⌜ w ≡ record { output = 0; errors = length (refusedText (numberOf refusal)) } ⌝ }
     ensures { λ _. ⌜ now (errors .exit) ≡ putAt 0 (refusedText (numberOf refusal)) (now (errors .entry)) ⌝ }
 {
-    let number = refusal.number() as u8;
-    let end_of_line = put_refused(errors, number);
+    let end_of_line = put_refusal(errors, refusal);
     Written {
         output: 0,
         errors: end_of_line,

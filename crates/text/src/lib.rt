@@ -8,7 +8,7 @@ mod walk;
 
 pub use numbers::put_decimal;
 pub use numbers::put_long_decimal;
-pub use refusal::put_refused;
+pub use refusal::put_refusal;
 pub use refusal::refusal_line;
 pub use walk::Piece;
 pub use walk::Walk;

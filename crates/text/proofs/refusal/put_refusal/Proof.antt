@@ -6,10 +6,10 @@ use lib.ListN.{length}
 use denote.Ref.{now}
 use Rattle.chip.specs.Lists.{putAt}
 use Rattle.chip.proofs.Laws.Refusals.{number-small}
 use Rattle.text.specs.Lines.{refusedText}
 use borrow.Author.Needs.{needs}
-use Rattle.pixel.proofs.output.put_refusal.Statement.{statement}
-use Rattle.pixel.proofs.output.put_refusal.Tie as tie
+use Rattle.text.proofs.refusal.put_refusal.Statement.{statement}
+use Rattle.text.proofs.refusal.put_refusal.Tie as tie
 
 number-requires : tie.Need-number-requires
 number-requires c κs = search needs
