@@ -2,6 +2,7 @@
 
 use crate::library::{Calls, LIBRARY, REFERENCE};
 use crate::logs::{Host, Log};
+use crate::points::{self, Points};
 use crate::{replay, show};
 use reference::block::read_block;
 use reference::line::sprites_meet;
@@ -49,6 +50,8 @@ pub enum Call {
     InterruptLine,
     Reset,
     DrawLine(u32),
+    /// Line and column.
+    Point(u32, u32),
     ReadSnapshot,
     WriteSnapshot,
     FullDraw,
@@ -61,6 +64,8 @@ pub enum Call {
     Replay(usize),
     /// The show program over the snapshot.
     Show,
+    /// Every point of a line, on copies of block and VRAM.
+    LinePoints(u32),
     /// The host sets the block's status.
     PutStatus(u8),
     /// The host sets the block's count of lost first bytes.
@@ -70,7 +75,7 @@ pub enum Call {
 }
 
 /// The calls by name, for counting.
-pub const NAMES: [&str; 16] = [
+pub const NAMES: [&str; 17] = [
     "power_up",
     "control_write",
     "data_write",
@@ -87,7 +92,11 @@ pub const NAMES: [&str; 16] = [
     "run_log",
     "read_log",
     "write_log",
+    "point",
 ];
+
+/// The refusal numbers that calls have.
+pub const REFUSED: [usize; 10] = [1, 2, 3, 4, 5, 6, 7, 8, 9, 13];
 
 impl Call {
     /// Its place in NAMES; the programs and the host's own doing have none.
@@ -109,7 +118,9 @@ impl Call {
             Call::RunLog(_) => Some(13),
             Call::ReadLog(_) => Some(14),
             Call::WriteLog(_) => Some(15),
-            Call::Replay(_) | Call::Show | Call::PutStatus(_) | Call::PutLost(_) | Call::PutSnapshot(..) => None,
+            Call::Point(..) => Some(16),
+            Call::Replay(_) | Call::Show | Call::LinePoints(_) => None,
+            Call::PutStatus(_) | Call::PutLost(_) | Call::PutSnapshot(..) => None,
         }
     }
 
@@ -126,7 +137,7 @@ impl Call {
     /// The slices it is lent.
     pub fn lent(self) -> &'static [Slice] {
         match self {
-            Call::PowerUp | Call::ControlWrite(_) | Call::DataRead => &[Slice::Block, Slice::Vram],
+            Call::PowerUp | Call::ControlWrite(_) | Call::DataRead | Call::Point(..) => &[Slice::Block, Slice::Vram],
             Call::DataWrite(_) => &[Slice::Block, Slice::Vram, Slice::Map],
             Call::StatusRead | Call::EndOfDisplay | Call::InterruptLine | Call::Reset => &[Slice::Block],
             Call::DrawLine(_) => &[Slice::Block, Slice::Vram, Slice::Line],
@@ -134,7 +145,7 @@ impl Call {
             Call::FullDraw | Call::Refresh => &[Slice::Block, Slice::Vram, Slice::Map, Slice::Frame, Slice::Notes],
             Call::RunLog(_) => &[Slice::Block, Slice::Vram, Slice::Map, Slice::Line, Slice::Outcome],
             Call::Replay(_) | Call::Show => &[Slice::Snapshot],
-            Call::ReadLog(_) | Call::WriteLog(_) => &[],
+            Call::ReadLog(_) | Call::WriteLog(_) | Call::LinePoints(_) => &[],
             Call::PutStatus(_) | Call::PutLost(_) | Call::PutSnapshot(..) => &[],
         }
     }
@@ -187,10 +198,12 @@ impl std::fmt::Display for Step {
             }
             Call::Show => write!(f, "show")?,
             Call::Replay(log) => write!(f, "replay (log {log})")?,
+            Call::LinePoints(line) => write!(f, "vdp_point({line}, each column)")?,
             call => {
                 let argument = match call {
                     Call::ControlWrite(byte) | Call::DataWrite(byte) => format!("{byte:02X}"),
                     Call::DrawLine(number) => number.to_string(),
+                    Call::Point(line, column) => format!("{line}, {column}"),
                     Call::RunLog(log) | Call::ReadLog(log) | Call::WriteLog(log) => format!("log {log}"),
                     _ => String::new(),
                 };
@@ -337,6 +350,7 @@ impl Side {
             Call::InterruptLine => (calls.interrupt_line)(block),
             Call::Reset => (calls.reset)(block),
             Call::DrawLine(number) => (calls.draw_line)(block, vram, line, number),
+            Call::Point(line, column) => (calls.point)(block, vram, line, column),
             Call::ReadSnapshot => (calls.read_snapshot)(block, vram, snapshot),
             Call::WriteSnapshot => (calls.write_snapshot)(block, vram, snapshot),
             Call::FullDraw => (calls.full_draw)(block, vram, map, frame, notes),
@@ -344,7 +358,7 @@ impl Side {
             Call::RunLog(_) => (calls.run_log)(block, vram, map, line, log, outcome),
             Call::ReadLog(_) => (calls.read_log)(log, records),
             Call::WriteLog(_) => (calls.write_log)(records, log),
-            Call::Replay(_) | Call::Show => 0,
+            Call::Replay(_) | Call::Show | Call::LinePoints(_) => 0,
             Call::PutStatus(byte) => {
                 block[13] = byte;
                 0
@@ -371,7 +385,7 @@ impl Side {
 #[derive(Default)]
 pub struct Reached {
     /// Answers of each call by refusal number.
-    pub answers: [[u64; 10]; NAMES.len()],
+    pub answers: [[u64; 14]; NAMES.len()],
     /// Draws that turned 5S or C on.
     pub fifth: u64,
     pub coincidence: u64,
@@ -397,6 +411,7 @@ pub struct Reached {
     /// Replays that were accepted and refused.
     pub replayed: [u64; 2],
     pub shown: u64,
+    pub points: Points,
 }
 
 /// The calls that drop a waiting first byte.
@@ -434,8 +449,8 @@ pub fn run(case: &Case, reached: &mut Reached) -> Result<(), Difference> {
         let (log, records) = lent_logs(case, step, &mut second);
         library.put_log(&log, &records);
         second.put_log(&log, &records);
-        // What the same calls made singly start from.
-        let host = matches!(step.call, Call::RunLog(_)).then(|| library.host(step));
+        // What the same calls made singly start from, and what a point leaves as it is.
+        let host = matches!(step.call, Call::RunLog(_) | Call::Point(..)).then(|| library.host(step));
         let (answer, expected) = (library.make(&LIBRARY, step), second.make(&REFERENCE, step));
         let mut found = compare(answer, expected, &library, &second);
         let refreshed = step.call == Call::Refresh && answer < 256;
@@ -448,6 +463,11 @@ pub fn run(case: &Case, reached: &mut Reached) -> Result<(), Difference> {
             found = match step.call {
                 Call::RunLog(_) => host.and_then(|host| singles_differ(host, answer, &mut library, reached)),
                 Call::ReadLog(_) | Call::WriteLog(_) if answer == 0 => round_trip_differs(step.call, &library, reached),
+                Call::Point(line, column) => {
+                    let after = library.host(step);
+                    host.and_then(|host| points::differs(&host, &after, (line, column), answer, &mut reached.points))
+                }
+                Call::LinePoints(line) => points::line_differs(&library.host(step), line, &mut reached.points),
                 Call::Show => show::differs(library.lent_snapshot(step), &mut reached.shown),
                 Call::Replay(_) => {
                     let input = [library.lent_snapshot(step), &log].concat();
@@ -629,7 +649,7 @@ fn full_draw_differs(mut block: Vec<u8>, after: &mut Side, reached: &mut Reached
 
 fn count(step: &Step, answer: u32, before: &[u8], after: &[u8], reached: &mut Reached) {
     if let Some(place) = step.call.place() {
-        reached.answers[place][(answer / 256).min(9) as usize] += 1;
+        reached.answers[place][(answer / 256).min(13) as usize] += 1;
     }
     for (place, length) in BLOCKS.into_iter().enumerate() {
         let lent = step.lengths.contains(&(Slice::Block, length));

@@ -5,6 +5,7 @@ pub mod library;
 pub mod lists;
 pub mod logs;
 pub mod meetings;
+pub mod points;
 pub mod random;
 pub mod replay;
 pub mod scenes;

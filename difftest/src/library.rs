@@ -29,6 +29,14 @@ mod c {
             line_len: usize,
             number: u32,
         ) -> u32;
+        pub fn vdp_point(
+            block: *const u8,
+            block_len: usize,
+            vram: *const u8,
+            vram_len: usize,
+            line: u32,
+            column: u32,
+        ) -> u32;
         pub fn vdp_full_draw(
             block: *mut u8,
             block_len: usize,
@@ -105,6 +113,8 @@ pub struct Calls {
     pub end_of_display: fn(&mut [u8]) -> u32,
     pub interrupt_line: fn(&[u8]) -> u32,
     pub draw_line: fn(&mut [u8], &[u8], &mut [u8], u32) -> u32,
+    /// Only reads the block. A planted fault of the reference writes to it.
+    pub point: fn(&mut [u8], &[u8], u32, u32) -> u32,
     pub full_draw: Draw,
     pub refresh: Draw,
     pub reset: fn(&mut [u8]) -> u32,
@@ -124,6 +134,7 @@ pub const REFERENCE: Calls = Calls {
     end_of_display: second::vdp_end_of_display,
     interrupt_line: second::vdp_interrupt_line,
     draw_line: second::vdp_draw_line,
+    point: second::vdp_point,
     full_draw: second::vdp_full_draw,
     refresh: second::vdp_refresh,
     reset: second::vdp_reset,
@@ -143,6 +154,7 @@ pub const LIBRARY: Calls = Calls {
     end_of_display,
     interrupt_line,
     draw_line,
+    point,
     full_draw,
     refresh,
     reset,
@@ -206,6 +218,10 @@ fn draw_line(block: &mut [u8], vram: &[u8], line: &mut [u8], number: u32) -> u32
             number,
         )
     }
+}
+
+fn point(block: &mut [u8], vram: &[u8], line: u32, column: u32) -> u32 {
+    unsafe { c::vdp_point(block.as_ptr(), block.len(), vram.as_ptr(), vram.len(), line, column) }
 }
 
 fn full_draw(block: &mut [u8], vram: &[u8], map: &mut [u8], frame: &mut [u8], notes: &mut [u8]) -> u32 {

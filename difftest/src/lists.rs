@@ -75,13 +75,14 @@ pub fn place(number: u64) -> (usize, usize) {
     ((number % modes) as usize, (number / modes % kinds) as usize)
 }
 
-/// A list of hundreds of calls.
+/// A list of hundreds of calls, with a refresh at the end.
 pub fn list_case(seed: u64, number: u64) -> Case {
     made(Random::new(seed, 2 * number + 1), |maker| {
         let length = 200 + maker.random.below(200);
         while maker.steps.len() < length {
             maker.some();
         }
+        maker.steps.push(Call::Refresh.into());
     })
 }
 
@@ -124,12 +125,18 @@ fn made(mut random: Random, calls: impl FnOnce(&mut Maker)) -> Case {
     // Mostly modes with sprites, and sprite pictures.
     let mode = random.pick(&[0, 0, 0, 1, 1, 1, 2, 2, 3, 4, 5]);
     let kind = random.below(KINDS.len());
+    made_in(random, (mode, kind), calls)
+}
+
+/// The same from a scene of this mode and kind on.
+pub(crate) fn made_in(mut random: Random, (mode, kind): (usize, usize), calls: impl FnOnce(&mut Maker)) -> Case {
     let (mut block, vram) = scene(&mut random, mode, kind);
     block[14] = u8::from(!random.one_in(8));
     let map = some_map(&mut random);
     let notes = some_notes(&mut random);
     let mut maker = Maker {
         registers: block[..8].to_vec(),
+        vram: vram.clone(),
         random,
         logs: Vec::new(),
         steps: Vec::new(),
@@ -149,6 +156,8 @@ fn made(mut random: Random, calls: impl FnOnce(&mut Maker)) -> Case {
 pub struct Maker {
     pub(crate) random: Random,
     pub(crate) registers: Vec<u8>,
+    /// As it is at the start.
+    pub(crate) vram: Vec<u8>,
     pub(crate) logs: Vec<Log>,
     pub(crate) steps: Vec<Step>,
 }
@@ -156,7 +165,7 @@ pub struct Maker {
 impl Maker {
     /// A few calls that belong together.
     fn some(&mut self) {
-        match self.random.below(213) {
+        match self.random.below(225) {
             0..=79 => self.write(),
             80..=95 => self.read(),
             96..=99 => self.register(),
@@ -178,7 +187,8 @@ impl Maker {
             158..=159 => self.push(Call::FullDraw),
             160..=199 => self.push(Call::Refresh),
             200..=204 => self.any_log(6),
-            _ => self.losses(),
+            205..=212 => self.losses(),
+            _ => self.point(),
         }
     }
 

@@ -1,12 +1,13 @@
 //! difftest [--seed N] [--first N] [--cases N] [--faults | --gate]
 //!
-//! Compares N states, from the first on, and a tenth as many lists of calls and as many cases of logs;
-//! without --cases a fixed number, and no more than two minutes. Before them come meetings of sprites, the
-//! same in every run. --faults plants each of the reference's faults in turn and wants it found; --gate
-//! does both.
+//! Compares N states, from the first on, a fourth as many cases of points, and a tenth as many lists of calls
+//! and cases of logs; without --cases a fixed number, and no more than two minutes. Before them come meetings
+//! of sprites, the same in every run. --faults plants each of the reference's faults in turn and wants it
+//! found; --gate does both.
 
-use difftest::calls::{run, Case, Lost, Reached, BLOCKS, DROPPING, HIDDEN, LENGTHS, LOST_FROM, NAMES};
+use difftest::calls::{run, Case, Lost, Reached, BLOCKS, DROPPING, HIDDEN, LENGTHS, LOST_FROM, NAMES, REFUSED};
 use difftest::lists::{list_case, log_case, place, state_case};
+use difftest::points::{self, Counts, PLACES, SHOWN};
 use difftest::scenes::{KINDS, MODES};
 use difftest::{meetings, shrink};
 use reference::faults;
@@ -74,11 +75,12 @@ fn options() -> Result<Options, String> {
     Ok(options)
 }
 
-/// A state, a list, a case of logs or a meeting of sprites by its number.
+/// A state, a list, a case of points or logs, or a meeting of sprites by its number.
 #[derive(Clone, Copy)]
 enum Numbered {
     Meeting(u64),
     State(u64),
+    Points(u64),
     Logs(u64),
     List(u64),
 }
@@ -88,16 +90,19 @@ impl Numbered {
         match self {
             Numbered::Meeting(number) => meetings::case(number),
             Numbered::State(number) => state_case(seed, number),
+            Numbered::Points(number) => points::case(seed, number),
             Numbered::Logs(number) => log_case(seed, number),
             Numbered::List(number) => list_case(seed, number),
         }
     }
 
-    /// The words that run it again; logs and a list come after their ten states, and all meetings come first.
+    /// The words that run it again; points come after their four states, logs and a list after their ten, and all
+    /// meetings come first.
     fn alone(self, seed: u64) -> String {
         let first = match self {
             Numbered::Meeting(_) => return "--cases 0".to_string(),
             Numbered::State(number) => number,
+            Numbered::Points(number) => 4 * number + 3,
             Numbered::Logs(number) | Numbered::List(number) => 10 * number + 9,
         };
         format!("--seed {seed} --first {first} --cases 1")
@@ -112,6 +117,7 @@ impl std::fmt::Display for Numbered {
                 let (mode, kind) = place(number);
                 write!(f, "state {number} ({}, {})", MODES[mode], KINDS[kind])
             }
+            Numbered::Points(number) => write!(f, "points {number} ({})", points::name(number)),
             Numbered::Logs(number) => write!(f, "logs {number}"),
             Numbered::List(number) => write!(f, "list {number}"),
         }
@@ -123,12 +129,14 @@ fn fixed() -> impl Iterator<Item = Numbered> {
     (0..meetings::count()).map(Numbered::Meeting)
 }
 
-/// The random ones, in order: logs and a list after every ten states.
+/// The random ones, in order: points after every four states, logs and a list after every ten.
 fn random(options: &Options) -> impl Iterator<Item = Numbered> {
     (options.first..options.first + options.cases).flat_map(|number| {
+        let after_four = (number % 4 == 3).then_some(Numbered::Points(number / 4));
         let after_ten = [Numbered::Logs(number / 10), Numbered::List(number / 10)];
-        let after = after_ten.into_iter().filter(move |_| number % 10 == 9);
-        std::iter::once(Numbered::State(number)).chain(after)
+        let after_ten = after_ten.into_iter().filter(move |_| number % 10 == 9);
+        let state = std::iter::once(Numbered::State(number));
+        state.chain(after_four).chain(after_ten)
     })
 }
 
@@ -139,6 +147,7 @@ struct Compared {
     /// What the meetings have reached of HIDDEN.
     hidden: [u64; HIDDEN.len()],
     states: [u64; MODES.len()],
+    points: u64,
     logs: u64,
     lists: u64,
 }
@@ -148,6 +157,7 @@ impl Compared {
         match numbered {
             Numbered::Meeting(_) => self.meetings += 1,
             Numbered::State(number) => self.states[place(number).0] += 1,
+            Numbered::Points(_) => self.points += 1,
             Numbered::Logs(_) => self.logs += 1,
             Numbered::List(_) => self.lists += 1,
         }
@@ -234,8 +244,8 @@ fn hex(bytes: &[u8]) -> String {
 fn summary(options: &Options, compared: &Compared, reached: &Reached) {
     let states: u64 = compared.states.iter().sum();
     println!(
-        "seed {}, {} meetings of sprites, {states} states, {} lists, {} cases of logs",
-        options.seed, compared.meetings, compared.lists, compared.logs
+        "seed {}, {} meetings of sprites, {states} states, {} lists, {} cases of logs, {} of points",
+        options.seed, compared.meetings, compared.lists, compared.logs, compared.points
     );
     let modes: Vec<String> = MODES
         .iter()
@@ -243,10 +253,10 @@ fn summary(options: &Options, compared: &Compared, reached: &Reached) {
         .map(|(name, count)| format!("{name} {count}"))
         .collect();
     println!("states: {}", modes.join(", "));
-    println!("{:16}{:>10}   refused 1 to 9", "call", "accepted");
+    println!("{:16}{:>10}   refused 1 to 9, and 13", "call", "accepted");
     for (name, answers) in NAMES.iter().zip(reached.answers) {
         if answers.iter().any(|&count| count > 0) {
-            let refused: String = answers[1..].iter().map(|count| format!("{count:>7}")).collect();
+            let refused: String = REFUSED.map(|number| format!("{:>7}", answers[number])).concat();
             println!("{name:16}{:>10}{refused}", answers[0]);
         }
     }
@@ -281,6 +291,26 @@ fn summary(options: &Options, compared: &Compared, reached: &Reached) {
     let ([read, written], [accepted, refused]) = (reached.round_trips, reached.replayed);
     println!("logs read and written back: {read}, written and read back: {written}");
     println!("replays: {accepted}, and {refused} refused; show's texts: {}", reached.shown);
+    for (who, counts) in points_by_whom(reached) {
+        let counts: Vec<String> = each_point(counts)
+            .map(|(what, count)| format!("{what} {count}"))
+            .collect();
+        println!("points {who}: {}", counts.join(", "));
+    }
+}
+
+/// Points asked for singly and in whole lines.
+fn points_by_whom(reached: &Reached) -> [(&'static str, Counts); 2] {
+    [
+        ("alone", reached.points.single),
+        ("of whole lines", reached.points.of_lines),
+    ]
+}
+
+/// Where points are and what they show, and how often.
+fn each_point(counts: Counts) -> impl Iterator<Item = (&'static str, u64)> {
+    let places = PLACES.into_iter().zip(counts.places);
+    places.chain(SHOWN.into_iter().zip(counts.shown))
 }
 
 fn print_lost(reached: &Reached) {
@@ -316,6 +346,7 @@ const REFUSALS: [&[usize]; NAMES.len()] = [
     &[0, 1, 2, 3, 8, 9],
     &[0, 8, 9],
     &[0, 8, 9],
+    &[0, 1, 2, 3, 4, 13],
 ];
 
 /// First bytes lost by single calls and in runs.
@@ -385,6 +416,11 @@ fn missed(compared: &Compared, reached: &Reached) -> Vec<String> {
     for (length, _) in BLOCKS.iter().zip(reached.blocks).filter(|&(_, count)| count == 0) {
         missed.push(format!("a refused block of {length} bytes"));
     }
+    for (who, counts) in points_by_whom(reached) {
+        for (what, _) in each_point(counts).filter(|&(_, count)| count == 0) {
+            missed.push(format!("points {who}: {what}"));
+        }
+    }
     for (operation, _) in reached.operations.iter().enumerate().filter(|&(_, &count)| count == 0) {
         missed.push(format!("operation {operation} in a run"));
     }
@@ -396,9 +432,14 @@ fn plant_all(options: &Options, passed: &mut u64, failed: &mut u64) {
     // Sprites that meet at the outermost columns alone hardly ever come up at random.
     let outermost = faults::FIRST_COLUMN_FORGOTTEN..=faults::LAST_COLUMNS_FORGOTTEN;
     let hidden = faults::ONLY_VISIBLE_COINCIDE..=faults::LAST_COLUMNS_FORGOTTEN;
+    let of_points = faults::POINT_OF_NEIGHBOUR..=faults::BESIDE_NOT_FETCHED;
     for number in 1..=faults::LAST {
-        if !outermost.contains(&number) {
-            let among = format!("{} states, their logs and lists", options.cases);
+        if of_points.contains(&number) {
+            let points = random(options).filter(|numbered| matches!(numbered, Numbered::Points(_)));
+            let among = format!("{} cases of points", options.cases / 4);
+            plant(number, points, &among, options, passed, failed);
+        } else if !outermost.contains(&number) {
+            let among = format!("{} states, their points, logs and lists", options.cases);
             plant(number, random(options), &among, options, passed, failed);
         }
         if hidden.contains(&number) {

@@ -1,6 +1,6 @@
 //! Makes a failing case small: fewer calls, fewer records, then fewer bytes that are not zero.
 
-use crate::calls::{run, Case, Reached};
+use crate::calls::{run, Call, Case, Reached};
 use std::time::{Duration, Instant};
 
 /// No more than so long for one case.
@@ -19,6 +19,7 @@ pub fn shrink(case: &Case) -> Case {
     }
     for _ in 0..PASSES {
         fewer_steps(&mut best, &fails, start);
+        single_points(&mut best, &fails);
         for log in best.steps.clone().into_iter().filter_map(|step| step.call.log()) {
             fewer_records(&mut best, log, &fails, start);
         }
@@ -45,6 +46,23 @@ fn fewer_steps(best: &mut Case, fails: &impl Fn(&Case) -> bool, start: Instant) 
             }
         }
         size /= 2;
+    }
+}
+
+/// Asks for one point in place of all those of a line.
+fn single_points(best: &mut Case, fails: &impl Fn(&Case) -> bool) {
+    for at in 0..best.steps.len() {
+        let Call::LinePoints(line) = best.steps[at].call else {
+            continue;
+        };
+        let mut smaller = best.clone();
+        for column in 0..256 {
+            smaller.steps[at] = Call::Point(line, column).into();
+            if fails(&smaller) {
+                *best = smaller;
+                break;
+            }
+        }
     }
 }
 

@@ -9,7 +9,7 @@ use crate::snapshot::{
     self, snapshot_tests, state_from_bytes, state_to_bytes, SNAPSHOT_BYTES, STATE_BYTES,
 };
 use crate::state::{State, FRAME_BYTES, LINE_BYTES, MAP_BYTES, NOTE_BYTES, VRAM_BYTES};
-use crate::{frame, ports};
+use crate::{frame, point, ports};
 
 pub const BLOCK_BYTES: usize = STATE_BYTES + 3;
 
@@ -148,6 +148,19 @@ pub fn vdp_draw_line(block: &mut [u8], vram: &[u8], line: &mut [u8], number: u32
     over_block(block, &lengths, |state| {
         frame::draw_line(state, vram, line, number)
     })
+}
+
+/// The block is only read. It is lent to be written for the planted mistake
+/// alone, which draws the point's line.
+pub fn vdp_point(block: &mut [u8], vram: &[u8], line: u32, column: u32) -> u32 {
+    let answer = match tested_state(block, &[vram_length(vram)]) {
+        Err(no) => no,
+        Ok(state) => point::point(&state, vram, line, column),
+    };
+    if answer.refusal == 0 && planted(faults::POINT_DRAWS) {
+        vdp_draw_line(block, vram, &mut [0; LINE_BYTES], line);
+    }
+    answer.number()
 }
 
 /// The lengths that full draw and refresh test.

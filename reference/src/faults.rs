@@ -113,8 +113,39 @@ pub const COUNT_HIGH_FIRST: u32 = 52;
 /// A run leaves the count as it was.
 pub const RUN_KEEPS_COUNT: u32 = 53;
 
+/// A point is that of the cell to the right.
+pub const POINT_OF_NEIGHBOUR: u32 = 54;
+/// A point leaves the first drawn sprite out.
+pub const POINT_WITHOUT_FRONT: u32 = 55;
+/// A point shows the sprite of the highest number.
+pub const POINT_FROM_BEHIND: u32 = 56;
+/// A point shows the fifth sprite too.
+pub const POINT_OF_FIFTH: u32 = 57;
+/// A sprite of colour 0 hides the sprites behind it at a point.
+pub const UNCOLOURED_HIDES: u32 = 58;
+/// A point moves status, as drawing its line does.
+pub const POINT_DRAWS: u32 = 59;
+/// A point's column is tested before its line.
+pub const COLUMN_TESTED_FIRST: u32 = 60;
+/// A point at column 256 is that at column 0.
+pub const COLUMN_256: u32 = 61;
+/// A point's column goes round at 256.
+pub const POINT_COLUMN_WRAPS: u32 = 62;
+/// A point's line goes round at 256.
+pub const POINT_LINE_WRAPS: u32 = 63;
+/// A point at Text's margins is that of a cell.
+pub const POINT_IN_MARGIN: u32 = 64;
+/// A point of a blank line is that of a cell, as in Graphics I.
+pub const BLANK_POINT_READS: u32 = 65;
+/// A point in Text takes the cells as 8 wide.
+pub const POINT_TEXT_8_WIDE: u32 = 66;
+/// A point without a colour is black, external video or not.
+pub const POINT_WITHOUT_EXTERNAL: u32 = 67;
+/// A drawn sprite beside the point has nothing but its Y fetched.
+pub const BESIDE_NOT_FETCHED: u32 = 68;
+
 /// The highest fault number.
-pub const LAST: u32 = 53;
+pub const LAST: u32 = 68;
 
 /// A few words for each fault, from 1 up.
 pub const NAMES: [&str; LAST as usize] = [
@@ -171,6 +202,21 @@ pub const NAMES: [&str; LAST as usize] = [
     "a snapshot read leaves the count of lost bytes",
     "the block has the count's high byte first",
     "a run leaves the count of lost bytes",
+    "a point takes the neighbour's cell",
+    "a point leaves the front sprite out",
+    "a point has the highest sprite in front",
+    "a point shows the fifth sprite",
+    "a sprite of colour 0 hides others at a point",
+    "a point moves status",
+    "a point's column is tested before its line",
+    "column 256 of a point is let through",
+    "a point's column wraps",
+    "a point's line wraps",
+    "a point reads a cell at Text's margins",
+    "a point of a blank line reads a cell",
+    "a point takes Text's cells as 8 wide",
+    "a point ignores external video",
+    "a sprite beside a point is not fetched",
 ];
 
 thread_local! {

@@ -8,6 +8,7 @@ pub mod faults;
 pub mod frame;
 pub mod line;
 pub mod log;
+pub mod point;
 pub mod ports;
 pub mod refusal;
 pub mod replay;
@@ -18,6 +19,7 @@ pub mod state;
 
 pub use frame::{draw_line, full_draw, refresh};
 pub use log::{read_log, run_log, write_log};
+pub use point::point;
 pub use ports::{
     control_write, data_read, data_write, end_of_display, interrupt_line, power_up, reset,
     status_read,

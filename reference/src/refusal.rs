@@ -18,16 +18,18 @@ pub const SUM: u8 = 7;
 pub const LOG_FORM: u8 = 8;
 /// A record with a wrong operation or value.
 pub const LOG_RECORD: u8 = 9;
+/// Column number too high.
+pub const COLUMN: u8 = 13;
 
 /// Which refusal goes before which.
-pub const ORDER: [u8; 9] = [
-    VRAM, SLICE, SNAPSHOT, TRAILER, SUM, STATE, LINE, LOG_FORM, LOG_RECORD,
+pub const ORDER: [u8; 10] = [
+    VRAM, SLICE, SNAPSHOT, TRAILER, SUM, STATE, LINE, COLUMN, LOG_FORM, LOG_RECORD,
 ];
 
 /// What a call answers: its refusal number (0 when accepted) and a value.
-/// The value is the byte read, the interrupt line, the count of redrawn lines
-/// or the byte found by a run, and 0 where the call has none of these or is
-/// refused.
+/// The value is the byte read, the interrupt line, the count of redrawn lines,
+/// the byte found by a run or a point's colour, and 0 where the call has none of
+/// these or is refused.
 #[derive(Clone, Copy, Debug, PartialEq, Eq)]
 pub struct Answer {
     pub refusal: u8,

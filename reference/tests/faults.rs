@@ -6,6 +6,7 @@ mod common;
 use common::{log_of, shapes_board, sprite_board, Lent, EARLY, FULL, LEFTMOST, RIGHTMOST};
 use reference::block::*;
 use reference::faults;
+use reference::point::fetches;
 use std::fmt::Debug;
 
 /// Runs the case without and with the fault.
@@ -600,4 +601,160 @@ fn fault_53_a_run_keeps_the_count() {
     };
     shows(fault, case, 7, 5);
     shows(fault, || lost_after_each(5, Some(1)), [6; 3], [6; 3]);
+}
+
+/// The colours at these columns of line 50, with these sprites.
+fn on_line_50<const N: usize>(sprites: &[[u8; 4]], columns: [u32; N]) -> [u32; N] {
+    let mut lent = shapes_board(0, sprites);
+    columns.map(|column| lent.point(50, column))
+}
+
+/// Names 1 and 0 side by side, of different colours.
+#[test]
+fn fault_54_the_neighbours_cell() {
+    let case = || {
+        let mut lent = board(0, &[]);
+        lent.vram[0x0000] = 8;
+        lent.vram[0x2000..0x2002].copy_from_slice(&[3, 4]);
+        [0, 7, 8].map(|column| lent.point(0, column))
+    };
+    shows(faults::POINT_OF_NEIGHBOUR, case, [4, 4, 3], [3, 3, 3]);
+}
+
+/// Two sprites that overlap at column 12, and are alone at 10 and 18.
+const OVERLAPPING: [[u8; 4]; 2] = [[49, 10, FULL, 5], [49, 12, FULL, 7]];
+
+#[test]
+fn faults_55_and_56_the_sprite_in_front() {
+    let case = || on_line_50(&OVERLAPPING, [10, 12, 18]);
+    shows(faults::POINT_WITHOUT_FRONT, case, [5, 5, 7], [1, 7, 7]);
+    shows(faults::POINT_FROM_BEHIND, case, [5, 5, 7], [5, 7, 7]);
+}
+
+#[test]
+fn fault_57_the_fifth_sprite() {
+    let sprites = [0, 20, 40, 60, 80, 100].map(|x| [49, x, FULL, 7]);
+    let case = || on_line_50(&sprites, [60, 80, 100]);
+    shows(faults::POINT_OF_FIFTH, case, [7, 1, 1], [7, 7, 1]);
+}
+
+#[test]
+fn fault_58_a_sprite_without_colour() {
+    let mut sprites = OVERLAPPING;
+    sprites[0][3] = 0;
+    let case = || on_line_50(&sprites, [10, 12, 18]);
+    shows(faults::UNCOLOURED_HIDES, case, [1, 7, 7], [1, 1, 7]);
+}
+
+#[test]
+fn fault_59_a_point_draws() {
+    let case = |column| {
+        let mut lent = board(0, &[[49, 10, 0, 7]; 5]);
+        (lent.point(50, column), lent.status())
+    };
+    let fault = faults::POINT_DRAWS;
+    shows(fault, || case(10), (7, 0x00), (7, 0x64));
+    shows(fault, || case(256), (13 * 256, 0), (13 * 256, 0));
+}
+
+/// The answers for columns of a line, on a board whose first column is of
+/// another colour.
+fn numbers<const N: usize>(asked: [(u32, u32); N]) -> [u32; N] {
+    let mut lent = board(0, &[]);
+    for row in 0..24 {
+        lent.vram[32 * row] = 8;
+    }
+    lent.vram[0x2001] = 3;
+    asked.map(|(line, column)| lent.point(line, column))
+}
+
+#[test]
+fn fault_60_column_before_line() {
+    let case = || numbers([(192, 256), (192, 0), (0, 256)]).map(|number| number / 256);
+    shows(faults::COLUMN_TESTED_FIRST, case, [4, 4, 13], [13, 4, 13]);
+}
+
+#[test]
+fn faults_61_and_62_columns_beyond_the_end() {
+    let case = || numbers([(0, 0), (0, 256), (0, 512), (0, 65_791)]);
+    let (refused, right) = (13 * 256, [3, 13 * 256, 13 * 256, 13 * 256]);
+    let fault = faults::COLUMN_256;
+    shows(fault, case, right, [3, 3, refused, refused]);
+    shows(faults::POINT_COLUMN_WRAPS, case, right, [3, 3, 3, 1]);
+}
+
+#[test]
+fn fault_63_lines_beyond_the_end() {
+    let case = || numbers([(191, 0), (192, 0), (256, 0), (447, 255), (u32::MAX, 0)]);
+    let refused = 4 * 256;
+    let right = [3, refused, refused, refused, refused];
+    let wrong = [3, refused, 3, 1, refused];
+    shows(faults::POINT_LINE_WRAPS, case, right, wrong);
+}
+
+/// Text with every pattern full but the last cell's.
+fn text_point<const N: usize>(columns: [u32; N]) -> [u32; N] {
+    let mut lent = Lent::with_registers([0, 0x50, 2, 0, 0, 0, 0, 0xF4]);
+    lent.vram[0x0000..0x0008].fill(0xFF);
+    lent.vram[0x0827] = 1;
+    columns.map(|column| lent.point(0, column))
+}
+
+#[test]
+fn fault_64_margins() {
+    let case = || text_point([7, 8, 241, 242, 247, 248]);
+    let wrong = [15, 15, 15, 4, 4, 15];
+    shows(faults::POINT_IN_MARGIN, case, [4, 15, 15, 4, 4, 4], wrong);
+}
+
+#[test]
+fn fault_65_blank_lines() {
+    let case = || {
+        let mut lent = board(0, &[[49, 10, 0, 7]]);
+        lent.vram[0x2000] = 3;
+        [0x40, 0x00, 0x58].map(|register_1| {
+            lent.block[1] = register_1;
+            [lent.point(50, 9), lent.point(50, 10)]
+        })
+    };
+    let right = [[3, 7], [1, 1], [1, 1]];
+    let wrong = [[3, 7], [3, 3], [3, 3]];
+    shows(faults::BLANK_POINT_READS, case, right, wrong);
+}
+
+#[test]
+fn fault_66_width_of_text() {
+    let case = || text_point([8, 13, 241, 242]);
+    let wrong = [15, 15, 15, 15];
+    shows(faults::POINT_TEXT_8_WIDE, case, [15, 15, 15, 4], wrong);
+}
+
+#[test]
+fn fault_67_external_video() {
+    let case = || {
+        let mut lent = board(0, &[]);
+        [0, 1].map(|register_0| {
+            lent.block[0] = register_0;
+            lent.point(0, 0)
+        })
+    };
+    shows(faults::POINT_WITHOUT_EXTERNAL, case, [1, 0], [1, 1]);
+}
+
+/// The list of fetches at a column of the first sprite, which the second does
+/// not reach.
+#[test]
+fn fault_68_a_sprite_beside_the_point() {
+    let case = || {
+        let lent = shapes_board(0, &[[49, 10, FULL, 5], [49, 100, FULL, 7]]);
+        fetches(&lent.state(), &lent.vram, 50, 10)
+    };
+    let cell_and_ys = [0x00C1, 0x1802, 0x2000, 0x1000, 0x1004, 0x1008];
+    let (first, second) = (
+        [0x1001, 0x1002, 0x1003, 0x0800],
+        [0x1005, 0x1006, 0x1007, 0x0800],
+    );
+    let right = [&cell_and_ys[..], &first, &second].concat();
+    let wrong = [&cell_and_ys[..], &first].concat();
+    shows(faults::BESIDE_NOT_FETCHED, case, right, wrong);
 }

@@ -17,6 +17,7 @@ enum Call {
     InterruptLine,
     Reset,
     DrawLine,
+    Point,
     FullDraw,
     Refresh,
     ReadSnapshot,
@@ -28,7 +29,7 @@ enum Call {
 
 use Call::*;
 
-const CALLS: [Call; 16] = [
+const CALLS: [Call; 17] = [
     PowerUp,
     ControlWrite,
     DataWrite,
@@ -38,6 +39,7 @@ const CALLS: [Call; 16] = [
     InterruptLine,
     Reset,
     DrawLine,
+    Point,
     FullDraw,
     Refresh,
     ReadSnapshot,
@@ -58,6 +60,7 @@ enum Harm {
     Notes,
     Contents,
     Number,
+    Column,
     SnapshotLength,
     Trailer,
     Sum,
@@ -83,6 +86,7 @@ fn refusal(harm: Harm) -> u32 {
         Sum => 7,
         LogForm | LogLength | RecordsLength => 8,
         LogRecord | Record => 9,
+        Column => 13,
     }
 }
 
@@ -94,6 +98,7 @@ fn tested(call: Call) -> Vec<Harm> {
         DataWrite => vec![Vram, BlockLength, Map, Contents],
         StatusRead | EndOfDisplay | InterruptLine | Reset => vec![BlockLength, Contents],
         DrawLine => vec![Vram, BlockLength, Line, Contents, Number],
+        Point => vec![Vram, BlockLength, Contents, Number, Column],
         FullDraw | Refresh => vec![Vram, BlockLength, Map, Frame, Notes, Contents],
         ReadSnapshot => vec![
             Vram,
@@ -232,6 +237,9 @@ fn harmed(harms: &[Harm], way: usize) -> Lent {
     if has(Number) {
         lent.number = [192, 255, 256, u32::MAX][way % 4];
     }
+    if has(Column) {
+        lent.column = [256, 257, 65536, u32::MAX][way % 4];
+    }
     if has(Record) {
         wrong_record(&mut lent.records, way);
     }
@@ -261,7 +269,7 @@ fn harmed(harms: &[Harm], way: usize) -> Lent {
     lent
 }
 
-/// A state in which every call would change something.
+/// A state in which every call but those that only ask would change something.
 fn good() -> Lent {
     let mut lent = Lent::with_registers([0, 0x60, 1, 2, 3, 4, 5, 6]);
     lent.block[8..].copy_from_slice(&[0x34, 0x12, 0x56, 1, 0x81, 0xE7, 0, 0x9A, 0xBC]);
@@ -271,6 +279,7 @@ fn good() -> Lent {
     lent.notes.fill(0xEE);
     lent.line.fill(0xEE);
     lent.number = 191;
+    lent.column = 255;
     // Each operation, with every read as expected.
     lent.log = log_of(&[
         (0, 0x99),
@@ -296,6 +305,7 @@ fn run(call: Call, lent: &mut Lent) -> u32 {
         InterruptLine => vdp_interrupt_line(&lent.block),
         Reset => vdp_reset(&mut lent.block),
         DrawLine => lent.draw(lent.number),
+        Point => lent.point(lent.number, lent.column),
         FullDraw => lent.full_draw(),
         Refresh => lent.refresh(),
         ReadSnapshot => lent.read_snapshot(),
@@ -318,6 +328,7 @@ fn run_direct(call: Call, state: &mut State, lent: &mut Lent) -> Answer {
         InterruptLine => interrupt_line(state),
         Reset => reset(state),
         DrawLine => draw_line(state, &lent.vram, &mut lent.line, lent.number),
+        Point => point(state, &lent.vram, lent.number, lent.column),
         FullDraw => {
             let Lent {
                 vram,
@@ -363,7 +374,7 @@ fn run_direct(call: Call, state: &mut State, lent: &mut Lent) -> Answer {
 
 /// The number that goes first by the paper's order.
 fn expected(harms: &[Harm]) -> u32 {
-    [1, 2, 5, 6, 7, 3, 4, 8, 9]
+    [1, 2, 5, 6, 7, 3, 4, 13, 8, 9]
         .into_iter()
         .find(|&number| harms.iter().any(|&harm| refusal(harm) == number))
         .unwrap_or(0)

@@ -5,6 +5,7 @@ mod common;
 
 use common::{log_of, shapes_board, Lent, Random, EARLY, LEFTMOST, RIGHTMOST};
 use reference::block::*;
+use reference::point::fetches;
 use reference::{faults, replay, show};
 use std::collections::BTreeMap;
 
@@ -77,6 +78,7 @@ fn step(lent: &mut Lent, random: &mut Random) -> u32 {
         29 => vdp_status_read(&mut lent.block),
         30 => vdp_end_of_display(&mut lent.block),
         31 => vdp_interrupt_line(&lent.block),
+        32 if random.chance(2) => lent.point(u32::from(byte), random.below(257)),
         32 => lent.draw(u32::from(byte)),
         33 if random.chance(8) => lent.control(byte),
         34 if random.chance(20) => vdp_reset(&mut lent.block),
@@ -193,6 +195,7 @@ fn no_input_panics() {
         vdp_data_write(&mut block, &mut vram, &mut map, 7);
         vdp_data_read(&mut block, &vram);
         vdp_draw_line(&mut block, &vram, &mut line, number);
+        vdp_point(&mut block, &vram, number, number / 7);
         vdp_refresh(&mut block, &vram, &mut map, &mut frame, &mut notes);
         vdp_full_draw(&mut block, &vram, &mut map, &mut frame, &mut notes);
         vdp_write_snapshot(&block, &vram, &mut snapshot);
@@ -280,6 +283,32 @@ fn port_calls(random: &mut Random) -> (Vec<u32>, Lent) {
     (answers, lent)
 }
 
+/// Points of a crowded screen, some beyond it, and what each fetches.
+fn point_calls(random: &mut Random) -> (Vec<u32>, Lent) {
+    let mut lent = busy(random);
+    let modes = [0x40, 0x40, 0x48, 0x50, 0x00, 0x58];
+    lent.block[1] = modes[random.below(6) as usize] | random.byte() & 3;
+    lent.block[7] &= if random.chance(2) { 0xF0 } else { 0xFF };
+    lent.block[13] = 0;
+    let mut answers = Vec::new();
+    for _ in 0..200 {
+        let lines = if random.chance(10) { 600 } else { 192 };
+        let line = random.below(lines);
+        let column = match random.below(10) {
+            0 => 256 * random.below(3),
+            1 => random.below(600),
+            2 => [0, 7, 8, 247, 248, 255][random.below(6) as usize],
+            _ => random.below(256),
+        };
+        answers.push(lent.point(line, column));
+        if line < 192 && column < 256 {
+            let fetched = fetches(&lent.state(), &lent.vram, line as u8, column as u8);
+            answers.extend(fetched.into_iter().map(|at| at as u32));
+        }
+    }
+    (answers, lent)
+}
+
 /// All that a list of calls with refreshes leaves and answers.
 fn trace(seed: u64) -> Vec<(Vec<u32>, Lent)> {
     let mut random = Random(seed);
@@ -318,6 +347,7 @@ fn trace(seed: u64) -> Vec<(Vec<u32>, Lent)> {
         let mut lent = two_at_a_side(&mut random);
         trace.push((vec![lent.full_draw()], lent));
         trace.push(port_calls(&mut random));
+        trace.push(point_calls(&mut random));
     }
     trace
 }

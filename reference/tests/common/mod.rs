@@ -14,6 +14,7 @@ pub struct Lent {
     pub notes: Vec<u8>,
     pub line: Vec<u8>,
     pub number: u32,
+    pub column: u32,
     pub snapshot: Vec<u8>,
     pub log: Vec<u8>,
     pub records: Vec<u8>,
@@ -31,6 +32,7 @@ impl Lent {
             notes: vec![0; 192],
             line: vec![0; 256],
             number: 0,
+            column: 0,
             snapshot: vec![0; 16406],
             log: vec![0; 4],
             records: Vec::new(),
@@ -97,6 +99,10 @@ impl Lent {
 
     pub fn draw(&mut self, number: u32) -> u32 {
         vdp_draw_line(&mut self.block, &self.vram, &mut self.line, number)
+    }
+
+    pub fn point(&mut self, line: u32, column: u32) -> u32 {
+        vdp_point(&mut self.block, &self.vram, line, column)
     }
 
     pub fn full_draw(&mut self) -> u32 {

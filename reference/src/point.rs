@@ -1,0 +1,251 @@
+//! The colour of one point: the cell that holds its column and the sprites of
+//! its line, byte by byte as they are fetched. No line is drawn for it, so that
+//! a drawn line is a second opinion.
+
+use crate::faults::{self, planted};
+use crate::line::{mode, Mode};
+use crate::refusal::{self, refused, Answer};
+use crate::state::{byte_at, State, LINES, LINE_BYTES, VRAM_BYTES};
+
+/// The colour at a line and column. Status stays as it was.
+pub fn point(state: &State, vram: &[u8], line: u32, column: u32) -> Answer {
+    let line_is_wrong = line_is_wrong(line);
+    let column_is_wrong = column_is_wrong(column);
+    let line_comes_later = column_is_wrong && planted(faults::COLUMN_TESTED_FIRST);
+    if let Some(no) = refused(&[
+        (refusal::VRAM, vram.len() != VRAM_BYTES),
+        (refusal::STATE, !state.is_well_formed()),
+        (refusal::LINE, line_is_wrong && !line_comes_later),
+        (refusal::COLUMN, column_is_wrong),
+    ]) {
+        return no;
+    }
+    let planes = planes(state, vram, (line % 256) as u8, (column % 256) as u8);
+    Answer::accepted(front(state, planes))
+}
+
+fn line_is_wrong(line: u32) -> bool {
+    let line = if planted(faults::POINT_LINE_WRAPS) {
+        line % 256
+    } else {
+        line
+    };
+    line >= LINES as u32
+}
+
+/// A column has more bits than a byte, and all of them count.
+fn column_is_wrong(column: u32) -> bool {
+    if planted(faults::POINT_COLUMN_WRAPS) || column == 256 && planted(faults::COLUMN_256) {
+        return false;
+    }
+    column >= LINE_BYTES as u32
+}
+
+/// The first plane that shows something. Where none does it is black or, with
+/// external video on, 0.
+fn front(state: &State, planes: [u8; 3]) -> u8 {
+    let external = state.has(0, 0x01) && !planted(faults::POINT_WITHOUT_EXTERNAL);
+    let nothing = if external { 0 } else { 1 };
+    planes
+        .into_iter()
+        .find(|&colour| colour != 0)
+        .unwrap_or(nothing)
+}
+
+/// What the sprites, the pattern plane and the backdrop show at a point of the
+/// screen, each 0 for nothing.
+pub fn planes(state: &State, vram: &[u8], line: u8, column: u8) -> [u8; 3] {
+    look(state, vram, line, column).0
+}
+
+/// Every VRAM address whose byte the point depends on, in the order of
+/// fetching: the cell's bytes, each Y, the drawn sprites' other bytes.
+pub fn fetches(state: &State, vram: &[u8], line: u8, column: u8) -> Vec<usize> {
+    look(state, vram, line, column).1
+}
+
+/// VRAM, and where each byte that was fetched from it is.
+struct Fetching<'a> {
+    vram: &'a [u8],
+    addresses: Vec<usize>,
+}
+
+impl Fetching<'_> {
+    fn fetch(&mut self, at: usize) -> u8 {
+        self.addresses.push(at);
+        byte_at(self.vram, at)
+    }
+}
+
+fn look(state: &State, vram: &[u8], line: u8, column: u8) -> ([u8; 3], Vec<usize>) {
+    let (line, column) = (usize::from(line), usize::from(column));
+    let mut from = Fetching {
+        vram,
+        addresses: Vec::new(),
+    };
+    let pattern = pattern_plane(state, &mut from, line, column);
+    let sprites = sprite_plane(state, &mut from, line, column);
+    let backdrop = state.registers[7] % 16;
+    ([sprites, pattern, backdrop], from.addresses)
+}
+
+/// The cell that holds a column, and how far into it the column is. Text has
+/// none at its margins, a blank line has none at all.
+fn cell(mode: Mode, column: usize) -> Option<(usize, usize)> {
+    let width = match mode {
+        Mode::Text if planted(faults::POINT_TEXT_8_WIDE) => 8,
+        Mode::Text => 6,
+        _ => 8,
+    };
+    let from_first = match mode {
+        Mode::Blank if !planted(faults::BLANK_POINT_READS) => return None,
+        Mode::Text if (8..=247).contains(&column) => column - 8,
+        Mode::Text if planted(faults::POINT_IN_MARGIN) => column.saturating_sub(8),
+        Mode::Text => return None,
+        _ => column,
+    };
+    let next = usize::from(planted(faults::POINT_OF_NEIGHBOUR));
+    Some((from_first / width + next, from_first % width))
+}
+
+/// The colour that the one cell has at the column; 0 where there is no cell.
+fn pattern_plane(state: &State, from: &mut Fetching, line: usize, column: usize) -> u8 {
+    let mode = mode(state);
+    let Some((cell, from_left)) = cell(mode, column) else {
+        return 0;
+    };
+    let cells_to_a_row = if mode == Mode::Text { 40 } else { 32 };
+    let name_at = state.register(2) * 1024 + line / 8 * cells_to_a_row + cell;
+    let name = usize::from(from.fetch(name_at));
+    match mode {
+        Mode::GraphicsOne | Mode::Blank => {
+            let pattern = from.fetch(state.register(4) * 2048 + 8 * name + line % 8);
+            let colours = from.fetch(state.register(3) * 64 + name / 8);
+            by_bit(pattern, from_left, colours)
+        }
+        Mode::GraphicsTwo => {
+            let offset = line / 64 * 2048 + 8 * name + line % 8;
+            let pattern = from.fetch(state.register(4) / 4 * 8192 + offset);
+            let colours = from.fetch(state.register(3) / 128 * 8192 + offset);
+            by_bit(pattern, from_left, colours)
+        }
+        Mode::Multicolor => {
+            let colours = from.fetch(state.register(4) * 2048 + 8 * name + line / 4 % 8);
+            by_bit(0b1111_0000, from_left, colours)
+        }
+        Mode::Text => {
+            let pattern = from.fetch(state.register(4) * 2048 + 8 * name + line % 8);
+            by_bit(pattern, from_left, state.registers[7])
+        }
+    }
+}
+
+/// A 1 takes the high nibble, a 0 the low one; the top bit is leftmost.
+fn by_bit(pattern: u8, from_left: usize, colours: u8) -> u8 {
+    if pattern >> (7 - from_left) & 1 == 1 {
+        colours >> 4
+    } else {
+        colours & 15
+    }
+}
+
+/// The colour that the line's sprites have at the column; 0 where none shows.
+/// All their bytes are fetched, wherever the sprites are.
+fn sprite_plane(state: &State, from: &mut Fetching, line: usize, column: usize) -> u8 {
+    if matches!(mode(state), Mode::Text | Mode::Blank) {
+        return 0;
+    }
+    let mut here: Vec<Option<u8>> = Vec::new();
+    for (attributes_at, row) in drawn(state, from, line) {
+        here.push(sprite_at(state, from, attributes_at, row, column));
+    }
+    if planted(faults::POINT_WITHOUT_FRONT) && !here.is_empty() {
+        here.remove(0);
+    }
+    if planted(faults::POINT_FROM_BEHIND) {
+        here.reverse();
+    }
+    let mut set = here.into_iter().flatten();
+    if planted(faults::UNCOLOURED_HIDES) {
+        return set.next().unwrap_or(0);
+    }
+    set.find(|&colour| colour != 0).unwrap_or(0)
+}
+
+/// Columns, and lines, to a bit of a sprite's pattern.
+fn scale(state: &State) -> usize {
+    if state.has(1, 0x01) {
+        2
+    } else {
+        1
+    }
+}
+
+/// The sprites drawn on the line: where their attributes begin, and the row of
+/// their pattern. Of a fifth only Y is fetched, and of none after it.
+fn drawn(state: &State, from: &mut Fetching, line: usize) -> Vec<(usize, usize)> {
+    let rows = if state.has(1, 0x02) { 16 } else { 8 };
+    let most = if planted(faults::POINT_OF_FIFTH) {
+        5
+    } else {
+        4
+    };
+    let mut drawn = Vec::new();
+    for number in 0..32 {
+        let attributes_at = state.register(5) * 128 + 4 * number;
+        let y = usize::from(from.fetch(attributes_at));
+        // The line less Y less 1, round at 256.
+        let row = (line + 255 - y) % 256 / scale(state);
+        if y == 208 {
+            break;
+        }
+        if row >= rows {
+            continue;
+        }
+        if drawn.len() == most {
+            break;
+        }
+        drawn.push((attributes_at, row));
+    }
+    drawn
+}
+
+/// The colour of a drawn sprite where it has a 1 at the column, be it 0.
+fn sprite_at(
+    state: &State,
+    from: &mut Fetching,
+    attributes_at: usize,
+    row: usize,
+    column: usize,
+) -> Option<u8> {
+    let before = from.addresses.len();
+    let x = usize::from(from.fetch(attributes_at + 1));
+    let name = usize::from(from.fetch(attributes_at + 2));
+    let colour_byte = from.fetch(attributes_at + 3);
+    let pattern = sprite_row(state, from, name, row);
+    // The early clock moves the sprite 32 columns to the left.
+    let early = if colour_byte & 0x80 != 0 { 32 } else { 0 };
+    let bit = (column + early)
+        .checked_sub(x)
+        .map(|from_left| from_left / scale(state))
+        .filter(|&bit| bit < 16);
+    if bit.is_none() && planted(faults::BESIDE_NOT_FETCHED) {
+        from.addresses.truncate(before);
+    }
+    bit.filter(|bit| pattern >> (15 - bit) & 1 == 1)
+        .map(|_| colour_byte % 16)
+}
+
+/// A row of a sprite's pattern as 16 bits; the right half of a small one is 0.
+fn sprite_row(state: &State, from: &mut Fetching, name: usize, row: usize) -> u16 {
+    let is_large = state.has(1, 0x02);
+    let name = if is_large { name - name % 4 } else { name };
+    let left_at = state.register(6) * 2048 + 8 * name + row;
+    let left = from.fetch(left_at);
+    let right = if is_large {
+        from.fetch(left_at + 16)
+    } else {
+        0
+    };
+    u16::from_be_bytes([left, right])
+}
