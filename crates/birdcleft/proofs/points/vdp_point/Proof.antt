@@ -1,8 +1,19 @@
 -- `vdp_point` meets its contract.
+use Rattle.point.specs.Calls as direct
+use Rattle.birdcleft.specs.Calls.{vramEntry}
+use Rattle.birdcleft.proofs.Laws.{lengths, at-entry, direct-result}
 use borrow.Author.Needs.{needs}
-use Rattle.birdcleft.proofs.Laws.{lengths, at-entry, at-end}
 use Rattle.birdcleft.proofs.points.vdp_point.Statement.{statement}
 use Rattle.birdcleft.proofs.points.vdp_point.Tie as tie
+
+-- the direct call on the loaded state, with the numbers as they were given
+returns-2 : tie.Need-returns-2
+returns-2 c =
+    let p = c .before in
+    let e = p .before .before in
+    let v = e .before in
+    let a = v .before .before .before .args in
+    direct-result (vramEntry (a .block .now) (a .vram .now)) (a .block .now) (λ s. direct.point s (a .vram .now) (a .line) (a .column)) (v .vram-entry .ensures) (e .if1 .left) (p .before .load .ensures) (p .point .ensures) (c .number .ensures)
 
 pub vdp-point-spec : {M : Type 1} → statement M
 vdp-point-spec =
@@ -13,4 +24,4 @@ vdp-point-spec =
     (λ c κs. search lengths)
     (λ c κs. search needs)
     (λ c κs. search needs)
-    (λ c. search at-end))
+    returns-2)

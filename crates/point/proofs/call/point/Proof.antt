@@ -1,10 +1,17 @@
 -- `point` meets its contract.
 use native.Mathlib.Omega.{arith}
+use mathlib.Core.Path.{_≡_}
+use mathlib.Core.Bool.{true, false}
+use lib.Dec.{leb}
 use borrow.Author.Tests.{eq-eqb, ne-eqb, le-leb, lt-leb}
 use Rattle.chip.proofs.Laws.State.{taken-not, left-not, masked-in}
 use borrow.Author.Needs.{needs}
 use Rattle.point.proofs.call.point.Statement.{statement}
 use Rattle.point.proofs.call.point.Tie as tie
+
+-- the function's entry, seen from the test of the state
+abbrev Entry : tie.After-is-well-formed → tie.Start
+Entry c = c .before .before .before
 
 refused-requires : tie.Need-refused-requires
 refused-requires c κs = search needs
@@ -30,7 +37,8 @@ returns-3 : tie.Need-returns-3
 returns-3 c =
     let e = c .before .before in
     let w = e .before in
-    rw (eq-eqb _ _ (w .before .if1 .left), left-not (w .is-well-formed .ensures) (e .if2 .left), lt-leb _ _ (c .before .if3 .taken)) (c .refused3 .ensures)
+    let high : leb (Entry w .args .line) 191 ≡ false = lt-leb _ _ (c .before .if3 .taken) in
+    rw (eq-eqb _ _ (w .before .if1 .left), left-not (w .is-well-formed .ensures) (e .if2 .left), high) (c .refused3 .ensures)
 
 refused-requires-4 : tie.Need-refused-requires-4
 refused-requires-4 c κs = search needs
@@ -40,7 +48,9 @@ returns-4 c =
     let l = c .before .before in
     let e = l .before in
     let w = e .before in
-    rw (eq-eqb _ _ (w .before .if1 .left), left-not (w .is-well-formed .ensures) (e .if2 .left), le-leb _ _ (l .if3 .left), lt-leb _ _ (c .before .if4 .taken)) (c .refused4 .ensures)
+    let low : leb (Entry w .args .line) 191 ≡ true = le-leb _ _ (l .if3 .left) in
+    let far : leb (Entry w .args .column) 255 ≡ false = lt-leb _ _ (c .before .if4 .taken) in
+    rw (eq-eqb _ _ (w .before .if1 .left), left-not (w .is-well-formed .ensures) (e .if2 .left), low, far) (c .refused4 .ensures)
 
 cast-colour-of : tie.Need-cast-colour-of
 cast-colour-of c = search needs
@@ -65,7 +75,9 @@ returns-5 c =
     let l = x .before in
     let e = l .before in
     let w = e .before in
-    rw (eq-eqb _ _ (w .before .if1 .left), left-not (w .is-well-formed .ensures) (e .if2 .left), le-leb _ _ (l .if3 .left), le-leb _ _ (x .if4 .left))
+    let low : leb (Entry w .args .line) 191 ≡ true = le-leb _ _ (l .if3 .left) in
+    let near : leb (Entry w .args .column) 255 ≡ true = le-leb _ _ (x .if4 .left) in
+    rw (eq-eqb _ _ (w .before .if1 .left), left-not (w .is-well-formed .ensures) (e .if2 .left), low, near)
     (rw (k .colour-of .ensures) at (c .accepted .ensures))
 
 pub point-spec : {M : Type 1} → statement M
