@@ -70,6 +70,14 @@ name-right k h =
       is = lists-same _ _ (and-right (leb (to k) (from k + 12)) _ e₂);
     }
 
+-- both places fit a word
+module _ (k : ℕ) (h : k < 16) where
+  pub from-small : from k < 18446744073709551616
+  from-small = let n = name-right k h in omega (arith, n .up, n .inside)
+
+  pub to-small : to k < 18446744073709551616
+  to-small = omega (arith, name-right k h .inside)
+
 -- no name is longer than `medium green`
 pub name-short : (c : ℕ) → length (nameOf c) ≤ 12
 unfolding nameOf

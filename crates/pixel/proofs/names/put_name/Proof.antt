@@ -7,7 +7,7 @@ use lib.ListN.{length, drop, length-take}
 use denote.Ref.{now}
 use Rattle.chip.specs.Lists.{putAt}
 use Rattle.pixel.specs.Names.{nameOf}
-use Rattle.pixel.proofs.Laws.Names.{letters, from, to, name-right}
+use Rattle.pixel.proofs.Laws.Names.{letters, from, to, name-right, from-small, to-small}
 use borrow.Author.Needs.{needs}
 use Rattle.pixel.proofs.names.put_name.Statement.{statement}
 use Rattle.pixel.proofs.names.put_name.Tie as tie
@@ -19,7 +19,7 @@ array-read-from : tie.Need-array-read-from
 array-read-from c = search needs
 
 cast-from : tie.Need-cast-from
-cast-from c = let n = name-right (c .before .args .colour % 16) (omega arith) in omega (arith, n .up, n .inside)
+cast-from c = record { fits = from-small (c .before .args .colour % 16) (omega arith) }
 
 add-to : tie.Need-add-to
 add-to c = search needs
@@ -28,7 +28,7 @@ array-read-to : tie.Need-array-read-to
 array-read-to c = search needs
 
 cast-to : tie.Need-cast-to
-cast-to c = omega (arith, name-right (c .before .args .colour % 16) (omega arith) .inside)
+cast-to c = record { fits = to-small (c .before .args .colour % 16) (omega arith) }
 
 sub-put : tie.Need-sub-put
 sub-put c = name-right (c .before .before .args .colour % 16) (omega arith) .up
