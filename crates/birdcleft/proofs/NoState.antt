@@ -1,12 +1,12 @@
 -- Blocks of 17 bytes that are refused by their waiting flag, first byte or redraw mark: no state encodes to them.
-use Prim.Native.Nat.{ℕ, _+_, _*_, _≤_, _<_}
+use Prim.Native.Nat.{ℕ, _+_, _*_, _<_}
 use native.Mathlib.Omega.{arith}
 use mathlib.Core.Path.{_≡_, _∙_}
 use mathlib.Core.Bool.{Bool, true, false}
 use mathlib.Core.List.{List, [], _∷_, _++_}
 use lib.Dec.{eqb, leb}
 use lib.ListN.{length, getD}
-use borrow.Author.Tests.{lt-leb, le-leb, eq-eqb, ne-eqb}
+use borrow.Author.Tests.{lt-leb, eq-eqb, ne-eqb}
 use Rattle.chip.specs.State.{vramSize, masked, wellFormed}
 use Rattle.chip.specs.Map.{mapSize}
 use Rattle.chip.specs.TwoBytes.{lowFirstAt}
@@ -17,7 +17,7 @@ use Rattle.chip.specs.declared.refusal.Refusal.{Refusal}
 use Rattle.chip.specs.declared.refusal.Refusal.the-variants.{IllFormed}
 use Rattle.chip.proofs.Laws.Ranges.{and-false}
 use Rattle.chip.proofs.Laws.Refusals.{AllPass, passed}
-use Rattle.scanline.specs.Calls.{lineSize, drawLineOwnTests}
+use Rattle.scanline.specs.Calls.{lineSize}
 use Rattle.frame.specs.Lines.{frameSize, notesSize}
 use Rattle.snapshot.specs.Format.{snapshotSize}
 use Rattle.snapshot.specs.Calls.{outputTests}
@@ -89,8 +89,8 @@ module _ (block : List ℕ) (unencoded : NoState block) where
       by : {r : Refusal} → r ≡ IllFormed → numberOf r * 256 + ifAccepted r number 0 ≡ refused
       by e = rw e
 
--- So each of the thirteen calls from C that test the state refuses such a block, if every list that it is lent has its length,
--- and the line number is at most 191. (Power-up and reading a snapshot replace the state.)
+-- So each of the thirteen calls from C that test the state refuses such a block, if every list that it is lent has its length.
+-- (Power-up and reading a snapshot replace the state.)
 module _ (block : List ℕ) (unencoded : NoState block) (seventeen : length block ≡ blockSize) where
   refuses : (ts : List Test) → AllPass ts → (number : ℕ) → order.resultAfter (sliceTest blockSize block ∷ (ts ++ (stateTest (chipOf block) ∷ []))) number ≡ refused
   refuses ts p number = no-state-refused block unencoded (sliceTest blockSize block ∷ ts) (eq-eqb _ _ seventeen, p) number
@@ -117,12 +117,12 @@ module _ (block : List ℕ) (unencoded : NoState block) (seventeen : length bloc
     pub data-read-refused : dataRead block vram .result ≡ refused
     data-read-refused = order.data-read-order block vram ∙ with-vram [] tt _
 
-    pub draw-line-refused : (line : List ℕ) (l : ℕ) → length line ≡ lineSize → l ≤ 191 → drawLine block vram line l .result ≡ refused
-    draw-line-refused line l fits within =
+    -- The tests of a line's number, and of a point's column, come later, and do not matter.
+    pub draw-line-refused : (line : List ℕ) (l : ℕ) → length line ≡ lineSize → drawLine block vram line l .result ≡ refused
+    draw-line-refused line l fits =
         order.draw-line-order block vram line l
-        ∙ with-vram (drawLineOwnTests line l) (eq-eqb _ _ fits, (le-leb _ _ within, tt)) _
+        ∙ rw (eq-eqb (length vram) vramSize long, eq-eqb (length block) blockSize seventeen, eq-eqb (length line) lineSize fits, no-state block unencoded)
 
-    -- The tests of the two numbers come later, and do not matter.
     pub point-refused : (l x : ℕ) → point block vram l x ≡ refused
     point-refused l x =
         order.point-order block vram l x

@@ -8,8 +8,9 @@ use Rattle.chip.specs.Map.{mapSize}
 use Rattle.chip.specs.Layout.{blockSize}
 use Rattle.frame.specs.Lines.{frameSize, notesSize}
 
--- A call with what is its own: bytes written, the slice for a line and the line's number, a point's line and column, a snapshot, a log. (For a run of a
--- log: the slice for lines, the log, and the slice for the outcome, which is lent from C alone.)
+-- A call with what is its own: bytes written, the slice for a line and the line's number, a point's line and column, a
+-- snapshot, a log. (For a run of a log: the slice for lines, the log, and the slice for the outcome, which is lent from C
+-- alone.)
 pub data Op : Type 0 where
   powerUp : Op
   controlWrite : ℕ → Op

@@ -1,7 +1,7 @@
 -- Which files and points are refused, and with which number.
 --
--- Rightly called, the program writes what one list of tests decides, in the one order of tests: those of the snapshot (5, 6, 7, 3) and
--- of the two numbers (4, 13). Where none fails it writes the point's colour in the state and VRAM that the snapshot holds.
+-- Rightly called, the program writes what one list of tests decides, in the one order of tests: those of the snapshot (5, 6, 7,
+-- 3) and of the two numbers (4, 13). Where none fails it writes the point's colour in the state and VRAM that the snapshot holds.
 use Prim.Native.Nat.{ℕ}
 use mathlib.Core.Path.{_≡_, refl, sym, ap, ap₂, _∙_}
 use mathlib.Core.Bool.{Bool, true, false}
@@ -44,21 +44,23 @@ file-first true true false d e f n = refl
 file-first true true true false e f n = refl
 file-first true true true true e f n = absurd (differ n)
 
-module _ (words : ℕ) (first second file : List ℕ) (right : rightlyCalled words first second ≡ true) where
-  abbrev l : ℕ
+module _ (argc : ℕ) (first second file : List ℕ) (right : rightlyCalled argc first second ≡ true) where
+  abbrev pub l : ℕ
   l = numberIn first
 
-  abbrev x : ℕ
+  abbrev pub x : ℕ
   x = numberIn second
 
-  abbrev given : Refusal
+  -- the first refusal of all tests
+  abbrev pub given : Refusal
   given = refusalOf (fileTests file ++ pointOwnTests l x)
 
   -- reading makes the tests of the file: VRAM has its length
   of-reading : readRefusal clearedVram file ≡ refusalOf (fileTests file)
   of-reading = passed (vramTest clearedVram) (fileTests file) (eq-eqb (length clearedVram) 16384 (length-replicate {A = ℕ} 16384 0))
 
-  abbrev shown : Refusal → List ℕ
+  -- the line of a refusal, or that of the colour
+  abbrev pub shown : Refusal → List ℕ
   shown r = ifAccepted r (colourText (pointColour (heldState file .registers) (vramBytes file) l x)) (refusedText (numberOf r))
 
   -- where no test of the file fails, those of the numbers are left, in the point's call too
@@ -80,20 +82,20 @@ module _ (words : ℕ) (first second file : List ℕ) (right : rightlyCalled wor
         passed (vramTest (vramBytes file)) (stateTest (heldState file) ∷ own) (eq-eqb _ _ (length-vram file (readable .whole)))
         ∙ passed (stateTest (heldState file)) own (readable .holds)
 
-    in-held : pixelOutput words first second file ≡ pointText l x (heldState file) (vramBytes file)
+    in-held : pixelOutput argc first second file ≡ pointText l x (heldState file) (vramBytes file)
     in-held =
-        sym (point-written words first second file right ok)
+        sym (point-written argc first second file right ok)
         ∙ ap₂ (λ (c : Chip) (v : List ℕ). pointText l x c v) (the-new ok (heldState file) powerUpState) (the-new ok (vramBytes file) clearedVram)
 
-    by-point : pixelOutput words first second file ≡ shown given
+    by-point : pixelOutput argc first second file ≡ shown given
     unfolding pointText
     by-point = in-held ∙ ap shown (of-point ∙ sym numbers-left)
 
-  pub in-order : pixelOutput words first second file ≡ shown given
+  pub in-order : pixelOutput argc first second file ≡ shown given
   in-order = by (isAccepted (refusalOf (fileTests file))) refl
     where
-      by : (b : Bool) → isAccepted (refusalOf (fileTests file)) ≡ b → pixelOutput words first second file ≡ shown given
+      by : (b : Bool) → isAccepted (refusalOf (fileTests file)) ≡ b → pixelOutput argc first second file ≡ shown given
       by false n =
           let one = file-first (eqb (length file) 16406) (pointsBack file) (sumRight file) (wellFormed (heldState file)) (leb l 191) (leb x 255) n in
-          sym (file-refused words first second file right of-reading n) ∙ refused-line (colourText (pointColour (heldState file .registers) (vramBytes file) l x)) one n
+          sym (file-refused argc first second file right of-reading n) ∙ refused-line (colourText (pointColour (heldState file .registers) (vramBytes file) l x)) one n
       by true ok = by-point (of-reading ∙ is-accepted (refusalOf (fileTests file)) ok)

@@ -7,5 +7,5 @@ use Rattle.pixel.specs.Arguments.{rightlyCalled}
 use Rattle.pixel.specs.Output.{usageText, pixelOutput}
 use Rattle.pixel.proofs.Laws.Output.{usage-written}
 
-pub whatever-the-file : (words : ℕ) (first second : List ℕ) → rightlyCalled words first second ≡ false → (file : List ℕ) → pixelOutput words first second file ≡ usageText
-whatever-the-file words first second e file = sym (usage-written words first second file e)
+pub whatever-the-file : (argc : ℕ) (first second : List ℕ) → rightlyCalled argc first second ≡ false → (file : List ℕ) → pixelOutput argc first second file ≡ usageText
+whatever-the-file argc first second e file = sym (usage-written argc first second file e)

@@ -16,15 +16,15 @@ allDigits (c ∷ l) = isDigit c && allDigits l
 abbrev pub isNumber : List ℕ → Bool
 isNumber word = not (eqb (length word) 0) && allDigits word
 
--- The number of further digits, where those before them have the number n.
-unfoldable pub goingOn : ℕ → List ℕ → ℕ
-goingOn n [] = n
-goingOn n (c ∷ l) = goingOn (n * 10 + (c - 48)) l
+-- The number that n becomes with further digits behind it.
+unfoldable pub withDigits : ℕ → List ℕ → ℕ
+withDigits n [] = n
+withDigits n (c ∷ l) = withDigits (n * 10 + (c - 48)) l
 
--- The number of digits, however many they are.
+-- The number that a word's digits stand for, however many they are.
 abbrev pub numberIn : List ℕ → ℕ
-numberIn word = goingOn 0 word
+numberIn word = withDigits 0 word
 
--- Whether there are three words, the program's own name, a line and a column, and the last two are numbers.
+-- Whether there are three words (`argc`), the program's own name, a line and a column, and the last two are numbers.
 abbrev pub rightlyCalled : ℕ → List ℕ → List ℕ → Bool
-rightlyCalled words first second = eqb words 3 && (isNumber first && isNumber second)
+rightlyCalled argc first second = eqb argc 3 && (isNumber first && isNumber second)

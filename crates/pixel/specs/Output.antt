@@ -31,5 +31,5 @@ pointText l x c vram =
 
 -- A snapshot is read as `show` reads it, with its refusals; the point's come after.
 unfoldable pub pixelOutput : ℕ → List ℕ → List ℕ → List ℕ → List ℕ
-pixelOutput words first second file =
-    cond (rightlyCalled words first second) (outputOf (pointText (numberIn first) (numberIn second)) file) usageText
+pixelOutput argc first second file =
+    cond (rightlyCalled argc first second) (outputOf (pointText (numberIn first) (numberIn second)) file) usageText

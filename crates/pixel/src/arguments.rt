@@ -28,10 +28,10 @@ fn is_number(word: &[u8]) -> bool
 }
 
 // Whether the words are the program's name, a line and a column.
-pub fn rightly_called(words: usize, first: &[u8], second: &[u8]) -> bool
-    ensures { λ b. ⌜ b ≡ arguments.rightlyCalled words (now (first .entry)) (now (second .entry)) ⌝ }
+pub fn rightly_called(argc: usize, first: &[u8], second: &[u8]) -> bool
+    ensures { λ b. ⌜ b ≡ arguments.rightlyCalled argc (now (first .entry)) (now (second .entry)) ⌝ }
 {
-    (words == 3) & (is_number(first) & is_number(second))
+    (argc == 3) & (is_number(first) & is_number(second))
 }
 
 // A number that is too large for its type stands for the largest one, which is refused like it.

@@ -42,11 +42,11 @@ fn put_point(out: &mut [u8], chip: Chip, vram: &[u8], line: u32, column: u32) ->
 }
 
 // The output's length is given by type: no program can lend one that is too short.
-pub fn pixel(words: usize, first: &[u8], second: &[u8], file: &[u8], out: &mut [u8; 64]) -> usize
-    ensures { λ n. ⌜ n ≡ length (pixelOutput words (now (first .entry)) (now (second .entry)) (now (file .entry))) ⌝ }
-    ensures { λ _. ⌜ now (out .exit) ≡ putAt 0 (pixelOutput words (now (first .entry)) (now (second .entry)) (now (file .entry))) (now (out .entry)) ⌝ }
+pub fn pixel(argc: usize, first: &[u8], second: &[u8], file: &[u8], out: &mut [u8; 64]) -> usize
+    ensures { λ n. ⌜ n ≡ length (pixelOutput argc (now (first .entry)) (now (second .entry)) (now (file .entry))) ⌝ }
+    ensures { λ _. ⌜ now (out .exit) ≡ putAt 0 (pixelOutput argc (now (first .entry)) (now (second .entry)) (now (file .entry))) (now (out .entry)) ⌝ }
 {
-    if !rightly_called(words, first, second) {
+    if !rightly_called(argc, first, second) {
         let usage = *b"usage: pixel LINE COLUMN <SNAPSHOT\n";
         return put(out, 0, &usage);
     }

@@ -18,8 +18,8 @@ inCells m x = leb (margin m) x && ltb x (margin m + cellsIn m * cellWidth m)
 abbrev pub cellAt : Mode → ℕ → ℕ
 cellAt m x = (x - margin m) / cellWidth m
 
-abbrev pub pixelAt : Mode → ℕ → ℕ
-pixelAt m x = (x - margin m) % cellWidth m
+abbrev pub pixelInCell : Mode → ℕ → ℕ
+pixelInCell m x = (x - margin m) % cellWidth m
 
 -- Pixel k of a cell, from the left: the leftmost is the most significant bit. A 1 bit takes the high nibble, a 0 bit the low one.
 abbrev pub pick : Cell → ℕ → ℕ
@@ -27,7 +27,7 @@ pick c k = cond (bit (7 - k) (c .pattern)) (c .colours / 16) (c .colours % 16)
 
 -- What column x shows of the cell that holds it, and no pattern (0) where none does.
 abbrev pub cellColour : Mode → Cell → ℕ → ℕ
-cellColour m cell x = cond (inCells m x) (pick cell (pixelAt m x)) 0
+cellColour m cell x = cond (inCells m x) (pick cell (pixelInCell m x)) 0
 
 abbrev pub noCell : Cell
 noCell = record { pattern = 0; colours = 0 }

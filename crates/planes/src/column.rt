@@ -29,25 +29,25 @@ fn in_cells(mode: Mode, x: usize) -> bool
 }
 
 // Which cell of a line, and which pixel of it, from the left.
-struct Place {
+struct CellPixel {
     cell: usize,
     pixel: usize,
 }
 
 // Where column x lies, which a cell holds. With the divisors written out the compiler has no division to make.
-fn place_of(mode: Mode, x: usize) -> Place
+fn place_of(mode: Mode, x: usize) -> CellPixel
     requires { ⌜ plane.inCells mode x ≡ true ⌝ }
-    ensures { λ p. ⌜ p ≡ record { cell = plane.cellAt mode x; pixel = plane.pixelAt mode x } ⌝ }
+    ensures { λ p. ⌜ p ≡ record { cell = plane.cellAt mode x; pixel = plane.pixelInCell mode x } ⌝ }
 {
     let d = x - margin_of(mode);
     let width = cell_width(mode);
     if width == 8 {
-        return Place {
+        return CellPixel {
             cell: d / 8,
             pixel: d % 8,
         };
     }
-    Place {
+    CellPixel {
         cell: d / 6,
         pixel: d % 6,
     }

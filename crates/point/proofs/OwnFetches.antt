@@ -4,9 +4,8 @@
 -- line. Where they stand can depend on VRAM (a name says where its pattern is), so they are taken at one of the two VRAMs, and found
 -- to be the same at the other. This is the law of descriptions, whatever they read.
 use Prim.Native.Nat.{ℕ}
-use mathlib.Core.Path.{_≡_, sym, ap, _∙_}
-use mathlib.Core.Bool.{Bool}
-use mathlib.Core.List.{List, _++_, _∷_}
+use mathlib.Core.Path.{_≡_, ap}
+use mathlib.Core.List.{List, _∷_}
 use lib.Dec.{eqb}
 use lib.ListN.{length}
 use Rattle.chip.specs.Modes.{modeOf}
@@ -32,11 +31,11 @@ pub same-colour-and-fetches : (r : List ℕ) (l x : ℕ) (one other : List ℕ) 
 same-colour-and-fetches r l x one other h =
     (ap (λ (s : Spot). colourOf r s x) (same-value (pointOf r l x) one other h), same-fetched (pointOf r l x) one other h)
 
--- So the call has the same answer, accepted or refused, if both have their length.
-pub same-answer : (c : Chip) (l x : ℕ) (one other : List ℕ) → length one ≡ vramSize → length other ≡ vramSize
+-- So the call has the same answer, accepted or refused, if both are equally long.
+pub same-answer : (c : Chip) (l x : ℕ) (one other : List ℕ) → length other ≡ length one
     → Agree (fetched (pointOf (c .registers) l x) one) one other → point c other l x ≡ point c one l x
-same-answer c l x one other full full-too h =
-    let long : eqb (length other) vramSize ≡ eqb (length one) vramSize = ap (λ (n : ℕ). eqb n vramSize) (full-too ∙ sym full) in
+same-answer c l x one other same h =
+    let long : eqb (length other) vramSize ≡ eqb (length one) vramSize = ap (λ (n : ℕ). eqb n vramSize) same in
     let colour = same-colour-and-fetches (c .registers) l x one other h .0 in
     λ i. answered (refusalOf (record { refusal = VramLength; passes = long i } ∷ stateTest c ∷ pointOwnTests l x)) c c (colour i)
 

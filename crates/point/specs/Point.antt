@@ -2,7 +2,6 @@
 use Prim.Native.Nat.{ℕ}
 use mathlib.Core.List.{List}
 use Rattle.chip.specs.Modes.{modeOf}
-use Rattle.chip.specs.declared.mode.Mode.{Mode}
 use Rattle.fetches.specs.Fetch.{Fetch, answer, followed}
 use Rattle.planes.specs.Plane.{cellColour, cellHolding}
 use Rattle.planes.specs.declared.cell.Cell.{Cell}
@@ -14,12 +13,12 @@ pub record Spot : Type 0 where
   pub cell : Cell
   pub found : Found
 
-abbrev pub pointIn : Mode → List ℕ → ℕ → ℕ → Fetch Spot
-pointIn m r l x = followed (cellHolding m r l x) λ cell. followed (spritesOf m r l) λ f. answer (record { cell = cell; found = f })
-
 -- What the point at line l and column x reads: from this one description come both its colour and its fetches.
 unfoldable pub pointOf : List ℕ → ℕ → ℕ → Fetch Spot
-pointOf r l x = pointIn (modeOf r) r l x
+pointOf r l x =
+    followed (cellHolding (modeOf r) r l x) λ cell.
+    followed (spritesOf (modeOf r) r l) λ f.
+    answer (record { cell = cell; found = f })
 
 -- Its colour is settled as that of a drawn line's pixel is.
 unfoldable pub colourOf : List ℕ → Spot → ℕ → ℕ

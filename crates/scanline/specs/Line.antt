@@ -41,7 +41,7 @@ lineIn m r l = followed (planeOf m r l) λ cells. followed (spritesOf m r l) λ 
 unfoldable pub lineOf : List ℕ → ℕ → Fetch Row
 lineOf r l = lineIn (modeOf r) r l
 
--- What settles the colour at column x: the sprites that the scan found, the pattern plane's colour there, and what stands behind.
+-- The colour at column x, settled by the sprites that the scan found, the pattern plane's colour there, and what stands behind.
 abbrev pub settled : List ℕ → Found → ℕ → ℕ → ℕ
 settled r f plane x = pixelOf r (spriteColours r (f .sprites) (visible x)) plane
 

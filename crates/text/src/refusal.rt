@@ -10,6 +10,7 @@ use crate::numbers::put_decimal;
 use chip::Refusal;
 use chip::put;
 
+// `refused N`, at the front of a slice.
 pub fn put_refused(out: &mut [u8], number: u8) -> usize
     requires { ⌜ 12 ≤ length (now out) ⌝ }
     ensures { λ r. ⌜ r ≡ length (refusedText number) ⌝ }
@@ -22,7 +23,7 @@ pub fn put_refused(out: &mut [u8], number: u8) -> usize
     put(out, b, &newline)
 }
 
-// The same by the refusal and not by its number.
+// The same for a refusal, by its number.
 pub fn put_refusal(out: &mut [u8], refusal: Refusal) -> usize
     requires { ⌜ 12 ≤ length (now out) ⌝ }
     ensures { λ r. ⌜ r ≡ length (refusedText (numberOf refusal)) ⌝ }

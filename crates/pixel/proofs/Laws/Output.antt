@@ -1,4 +1,4 @@
--- What is written for a point, for a file that is refused, and for numbers that the code holds at a limit.
+-- What is written for a point, for a file that is refused, and for numbers that the code caps at a limit.
 use Prim.Native.Nat.{ℕ, _<_, min}
 use native.Mathlib.Omega.{arith}
 use mathlib.Core.Path.{_≡_, refl, sym, ap, ap₂, _∙_}
@@ -6,7 +6,7 @@ use mathlib.Core.Bool.{Bool, true, false, cond}
 use mathlib.Core.List.{List, [], _∷_}
 use lib.Dec.{leb, lit<}
 use borrow.Author.Tests.{leb-true, leb-false, le-leb, lt-leb}
-use Rattle.chip.specs.Refusals.{numberOf, isAccepted, ifAccepted, Test, vramTest, stateTest, refusalOf}
+use Rattle.chip.specs.Refusals.{numberOf, isAccepted, ifAccepted, vramTest, stateTest, refusalOf}
 use Rattle.chip.specs.Ports.{clearedVram}
 use Rattle.chip.specs.State.{powerUpState}
 use Rattle.chip.specs.declared.state.Chip.{Chip}
@@ -36,7 +36,7 @@ module _ (c : Chip) (vram : List ℕ) (l x : ℕ) where
       let colour = pointColour (c .registers) vram l x in
       ap colourText (the-new e colour 0) ∙ sym (the-new e (colourText colour) (refusedText (numberOf (pointRefusal c vram l x))))
 
--- a number is as much above a bound when it is held at a limit further up
+-- a number is as much above a bound when it is capped at a limit further up
 above : (bound limit n : ℕ) → bound < limit → leb (min n limit) bound ≡ leb n bound
 above bound limit n h = by (leb n bound) refl
   where
@@ -47,7 +47,7 @@ above bound limit n h = by (leb n bound) refl
 abbrev pub limit : ℕ
 limit = 4294967295
 
--- so the text is the same for numbers that the code holds at its limit
+-- so the text is the same for numbers that the code caps
 module _ (c : Chip) (vram : List ℕ) (l x : ℕ) where
   same-refusal : pointRefusal c vram (min l limit) (min x limit) ≡ pointRefusal c vram l x
   same-refusal =
@@ -55,8 +55,8 @@ module _ (c : Chip) (vram : List ℕ) (l x : ℕ) where
       (above 191 limit l (lit< tt))
       (above 255 limit x (lit< tt))
 
-  pub held-point : pointText (min l limit) (min x limit) c vram ≡ pointText l x c vram
-  held-point = by (isAccepted (pointRefusal c vram l x)) refl
+  pub capped-point : pointText (min l limit) (min x limit) c vram ≡ pointText l x c vram
+  capped-point = by (isAccepted (pointRefusal c vram l x)) refl
     where
       by : (b : Bool) → isAccepted (pointRefusal c vram l x) ≡ b → pointText (min l limit) (min x limit) c vram ≡ pointText l x c vram
       by true e =
@@ -69,18 +69,18 @@ module _ (c : Chip) (vram : List ℕ) (l x : ℕ) where
       by false e = sym (point-refused c vram (min l limit) (min x limit) same-refusal e) ∙ point-refused c vram l x refl e
 
 -- the whole output
-module _ (words : ℕ) (first second file : List ℕ) where
-  pub usage-written : rightlyCalled words first second ≡ false → usageText ≡ pixelOutput words first second file
+module _ (argc : ℕ) (first second file : List ℕ) where
+  pub usage-written : rightlyCalled argc first second ≡ false → usageText ≡ pixelOutput argc first second file
   unfolding pixelOutput
   usage-written e = sym (ap (λ (b : Bool). cond b (outputOf (pointText (numberIn first) (numberIn second)) file) usageText) e)
 
-  module _ (right : rightlyCalled words first second ≡ true) where
-    shows : outputOf (pointText (numberIn first) (numberIn second)) file ≡ pixelOutput words first second file
+  module _ (right : rightlyCalled argc first second ≡ true) where
+    shows : outputOf (pointText (numberIn first) (numberIn second)) file ≡ pixelOutput argc first second file
     unfolding pixelOutput
     shows = sym (ap (λ (b : Bool). cond b (outputOf (pointText (numberIn first) (numberIn second)) file) usageText) right)
 
     -- a file that is refused
-    pub file-refused : {r : Refusal} → readRefusal clearedVram file ≡ r → isAccepted r ≡ false → refusedText (numberOf r) ≡ pixelOutput words first second file
+    pub file-refused : {r : Refusal} → readRefusal clearedVram file ≡ r → isAccepted r ≡ false → refusedText (numberOf r) ≡ pixelOutput argc first second file
     unfolding outputOf
     file-refused e n = refused-line (pointText (numberIn first) (numberIn second) (readSnapshot powerUpState clearedVram file .chip) (readVram clearedVram file)) e n ∙ shows
 
@@ -92,9 +92,9 @@ module _ (words : ℕ) (first second file : List ℕ) where
       abbrev vram : List ℕ
       vram = readVram clearedVram file
 
-      pub point-written : pointText (numberIn first) (numberIn second) chip vram ≡ pixelOutput words first second file
+      pub point-written : pointText (numberIn first) (numberIn second) chip vram ≡ pixelOutput argc first second file
       unfolding outputOf
       point-written = sym (the-new e (pointText (numberIn first) (numberIn second) chip vram) (refusedText (numberOf (readRefusal clearedVram file)))) ∙ shows
 
-      pub held-point-written : pointText (min (numberIn first) limit) (min (numberIn second) limit) chip vram ≡ pixelOutput words first second file
-      held-point-written = held-point chip vram (numberIn first) (numberIn second) ∙ point-written
+      pub capped-point-written : pointText (min (numberIn first) limit) (min (numberIn second) limit) chip vram ≡ pixelOutput argc first second file
+      capped-point-written = capped-point chip vram (numberIn first) (numberIn second) ∙ point-written

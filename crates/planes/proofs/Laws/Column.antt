@@ -14,15 +14,15 @@ use Rattle.chip.proofs.Laws.Ranges.{and-left, and-right}
 use Rattle.fetches.specs.Fetch.{value, fetched, Among}
 use Rattle.fetches.proofs.Among.{each-among}
 use Rattle.planes.specs.Cells.{cellsIn, cellWidth, margin, cellOf, planeOf}
-use Rattle.planes.specs.Plane.{inCells, cellAt, pixelAt, cellColour, noCell, planeColour, cellHolding}
+use Rattle.planes.specs.Plane.{inCells, cellAt, pixelInCell, cellColour, noCell, planeColour, cellHolding}
 use Rattle.planes.proofs.Laws.Plane.{cell-read}
 
 -- where a cell holds the column
-pub held-low : (m : Mode) (x : ℕ) → inCells m x ≡ true → margin m ≤ x
-held-low m x e = leb-true _ _ (and-left (leb (margin m) x) _ e)
+pub from-margin : (m : Mode) (x : ℕ) → inCells m x ≡ true → margin m ≤ x
+from-margin m x e = leb-true _ _ (and-left (leb (margin m) x) _ e)
 
-held-high : (m : Mode) (x : ℕ) → inCells m x ≡ true → x < margin m + cellsIn m * cellWidth m
-held-high m x e = ltb-true _ _ (and-right (leb (margin m) x) _ e)
+before-end : (m : Mode) (x : ℕ) → inCells m x ≡ true → x < margin m + cellsIn m * cellWidth m
+before-end m x e = ltb-true _ _ (and-right (leb (margin m) x) _ e)
 
 one-of : (m : Mode) (x : ℕ) → x < margin m + cellsIn m * cellWidth m → (x - margin m) / cellWidth m < cellsIn m
 one-of Blank x h = omega arith
@@ -33,7 +33,7 @@ one-of Text x h = omega arith
 
 -- it is one of the line's cells
 pub cell-one : (m : Mode) (x : ℕ) → inCells m x ≡ true → cellAt m x < cellsIn m
-cell-one m x e = one-of m x (held-high m x e)
+cell-one m x e = one-of m x (before-end m x e)
 
 remainder : (m : Mode) (d : ℕ) → d % cellWidth m < 8
 remainder Blank d = omega arith
@@ -43,7 +43,7 @@ remainder Multicolor d = omega arith
 remainder Text d = omega arith
 
 -- no cell is wider than eight pixels
-pub pixel-one : (m : Mode) (x : ℕ) → pixelAt m x < 8
+pub pixel-one : (m : Mode) (x : ℕ) → pixelInCell m x < 8
 pixel-one m x = remainder m (x - margin m)
 
 module _ (m : Mode) (r : List ℕ) (l : ℕ) (vram : List ℕ) (x : ℕ) where

@@ -14,7 +14,7 @@ use Rattle.chip.specs.declared.mode.Mode.the-variants.{Blank, GraphicsI, Graphi
 use Rattle.fetches.specs.Fetch.{value}
 use Rattle.planes.specs.Cells.{colourAddress, patternAddress, shapeOf, cellOf}
 use Rattle.planes.specs.Pixel.{over, behindPlanes}
-use Rattle.planes.specs.Plane.{pick, inCells, pixelAt, cellAt, cellColour, cellHolding}
+use Rattle.planes.specs.Plane.{pick, inCells, pixelInCell, cellAt, cellColour, cellHolding}
 use Rattle.planes.specs.declared.cell.Cell.{Cell}
 
 one-or-other : (b : Bool) {x y : ℕ} → x < 16 → y < 16 → cond b x y < 16
@@ -53,5 +53,5 @@ module _ (r : List ℕ) (registers : Bytes r) (vram : List ℕ) (bytes : Bytes v
   column-small m x = by (inCells m x) refl
     where
       by : (b : Bool) → inCells m x ≡ b → cellColour m (value (cellHolding m r l x) vram) x < 16
-      by true e = rw e (pick-small _ (pixelAt m x) (cell-small m (cellAt m x)))
+      by true e = rw e (pick-small _ (pixelInCell m x) (cell-small m (cellAt m x)))
       by false e = rw e (lit< tt)

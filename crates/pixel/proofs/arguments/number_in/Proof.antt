@@ -1,5 +1,5 @@
 -- `number_in` meets its contract.
-use Prim.Native.Nat.{ℕ, _+_, _*_, _-_, _≤_, _<_, min}
+use Prim.Native.Nat.{ℕ, _+_, _*_, _-_, _≤_, min}
 use native.Mathlib.Omega.{arith}
 use mathlib.Core.Path.{_≡_, refl, sym, ap, _∙_}
 use mathlib.Core.Bool.{true, not, _&&_}
@@ -7,14 +7,14 @@ use lib.Dec.{eqb}
 use borrow.Author.Needs.{needs}
 use lib.ListN.{length, getD, drop, drop-of-length-le}
 use Rattle.chip.proofs.Laws.Ranges.{and-left, and-right}
-use Rattle.pixel.specs.Arguments.{isDigit, allDigits, goingOn, numberIn}
-use Rattle.pixel.proofs.Laws.Arguments.{digits-on, number-on, held}
+use Rattle.pixel.specs.Arguments.{isDigit, allDigits, withDigits, numberIn}
+use Rattle.pixel.proofs.Laws.Arguments.{digits-on, number-on, capped}
 use Rattle.pixel.proofs.arguments.number_in.Statement.{statement}
 use Rattle.pixel.proofs.arguments.number_in.Tie as tie
 
 abbrev Inv-loop : tie.InvT-loop
 Inv-loop word n₀ i₀ n i =
-    (i ≤ length word) × (allDigits (drop i word) ≡ true) × (n ≤ 4294967295) × (min (goingOn n (drop i word)) 4294967295 ≡ min (numberIn word) 4294967295)
+    (i ≤ length word) × (allDigits (drop i word) ≡ true) × (n ≤ 4294967295) × (min (withDigits n (drop i word)) 4294967295 ≡ min (numberIn word) 4294967295)
 
 abbrev μ-loop : tie.MeasureT-loop
 μ-loop word n₀ i₀ n i = length word - i
@@ -53,14 +53,14 @@ loop-again c =
       omega arith,
       and-right (isDigit (getD w (h .i) 0)) (allDigits (drop (h .i + 1) w)) (next t),
       omega (arith, c .one-digit-more .ensures),
-      ap (λ (m : ℕ). min (goingOn m (drop (h .i + 1) w)) 4294967295) (c .one-digit-more .ensures)
-          ∙ held 4294967295 (drop (h .i + 1) w) n
+      ap (λ (m : ℕ). min (withDigits m (drop (h .i + 1) w)) 4294967295) (c .one-digit-more .ensures)
+          ∙ capped 4294967295 (drop (h .i + 1) w) n
           ∙ ap (λ (m : ℕ). min m 4294967295) (sym (number-on w (h .i) (t .loop-test .taken) (h .n)))
           ∙ h .inv .3,
     )
 
 returns : tie.Need-returns Inv-loop μ-loop
-unfolding goingOn
+unfolding withDigits
 returns c =
     let h = c .before .loop in
     let w = c .before .before .before .args .word .now in

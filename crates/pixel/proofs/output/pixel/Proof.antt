@@ -1,9 +1,8 @@
 -- `pixel` meets its contract.
 use Prim.Native.Nat.{ℕ, min}
 use native.Mathlib.Nat.{zero-add}
-use native.Mathlib.Omega.{arith}
-use mathlib.Core.Path.{_≡_, refl, sym, ap, ap₂, _∙_}
-use mathlib.Core.Bool.{Bool, true, false, cond, _&&_}
+use mathlib.Core.Path.{_≡_, sym, ap, ap₂, _∙_}
+use mathlib.Core.Bool.{true, false, _&&_}
 use mathlib.Core.List.{List}
 use lib.Dec.{eqb}
 use lib.ListN.{length}
@@ -21,8 +20,8 @@ use Rattle.chip.proofs.Laws.Refusals.{is-accepted}
 use Rattle.chip.proofs.Laws.State.{taken-not, left-not}
 use Rattle.snapshot.specs.Calls.{readRefusal, readSnapshot, readVram}
 use Rattle.pixel.specs.Arguments.{isNumber, numberIn, rightlyCalled}
-use Rattle.pixel.specs.Output.{usageText, pointText, pixelOutput}
-use Rattle.pixel.proofs.Laws.Output.{limit, usage-written, file-refused, held-point-written}
+use Rattle.pixel.specs.Output.{pointText}
+use Rattle.pixel.proofs.Laws.Output.{limit, usage-written, file-refused, capped-point-written}
 use borrow.Author.Needs.{needs}
 use Rattle.pixel.proofs.output.pixel.Statement.{statement}
 use Rattle.pixel.proofs.output.pixel.Tie as tie
@@ -40,11 +39,11 @@ second c = now (Entry c .args .second)
 abbrev file : tie.After-rightly-called → List ℕ
 file c = now (Entry c .args .file)
 
-called : (c : tie.Else1) → rightlyCalled (Entry (c .before) .args .words) (first (c .before)) (second (c .before)) ≡ true
+called : (c : tie.Else1) → rightlyCalled (Entry (c .before) .args .argc) (first (c .before)) (second (c .before)) ≡ true
 called c = left-not (c .before .rightly-called .ensures) (c .if1 .left)
 
 numbers : (c : tie.Else1) → (isNumber (first (c .before)) && isNumber (second (c .before))) ≡ true
-numbers c = and-right (eqb (Entry (c .before) .args .words) 3) (isNumber (first (c .before)) && isNumber (second (c .before))) (called c)
+numbers c = and-right (eqb (Entry (c .before) .args .argc) 3) (isNumber (first (c .before)) && isNumber (second (c .before))) (called c)
 
 -- the file as it is read
 abbrev atTest : tie.After-read → tie.After-rightly-called
@@ -73,7 +72,7 @@ returns c =
     let t = c .before .before .before .before .before in
     let r = t .before in
     let a = Entry r .args in
-    let text = usage-written (a .words) (first r) (second r) (file r) (taken-not (r .rightly-called .ensures) (t .if1 .taken)) in
+    let text = usage-written (a .argc) (first r) (second r) (file r) (taken-not (r .rightly-called .ensures) (t .if1 .taken)) in
     (c .put .ensures .0 ∙ zero-add _ ∙ ap length text, c .put .ensures .1 ∙ ap (λ (s : List ℕ). putAt 0 s (now (a .out))) text)
 
 power-up-state-requires : tie.Need-power-up-state-requires
@@ -100,7 +99,7 @@ returns-2 c =
     let a = Entry r .args in
     let given = d .read .result .refusal in
     let refuses : isAccepted given ≡ false = ne-eqb (numberOf given) 0 (λ e. t .if2 .taken (n .number .ensures ∙ e)) in
-    let text = file-refused (a .words) (first r) (second r) (file r) (called (d .before .before .before)) (refusal d) refuses in
+    let text = file-refused (a .argc) (first r) (second r) (file r) (called (d .before .before .before)) (refusal d) refuses in
     (c .put-refusal .ensures .0 ∙ ap length text, c .put-refusal .ensures .1 ∙ ap (λ (s : List ℕ). putAt 0 s (now (a .out))) text)
 
 slice-aggregate-put-point : tie.Need-slice-aggregate-put-point
@@ -133,7 +132,7 @@ returns-3 c =
     let text =
     ap₂ (λ (l x : ℕ). pointText l x (d .read .result .chip) (d .read .last .1 .0)) (m .before .number-in .ensures) (m .number-in2 .ensures)
     ∙ ap₂ (λ (s : Chip) (v : List ℕ). pointText (min (numberIn (first r)) limit) (min (numberIn (second r)) limit) s v) (ap (λ (x : Answer). x .chip) (read-answer d)) (read-vram d)
-    ∙ held-point-written (a .words) (first r) (second r) (file r) (called (d .before .before .before)) (refusal d ∙ accepted) in
+    ∙ capped-point-written (a .argc) (first r) (second r) (file r) (called (d .before .before .before)) (refusal d ∙ accepted) in
     (c .put-point .ensures .0 ∙ ap length text, c .put-point .ensures .1 ∙ ap (λ (s : List ℕ). putAt 0 s (now (a .out))) text)
 
 pub pixel-spec : {M : Type 1} → statement M

@@ -9,7 +9,6 @@ use borrow.Author.Tests.{eq-eqb, ne-eqb}
 use Rattle.chip.specs.Lists.{putAt}
 use Rattle.chip.specs.Refusals.{numberOf, isAccepted}
 use Rattle.chip.specs.declared.refusal.Answer.{Answer}
-use Rattle.chip.specs.declared.refusal.Refusal.{Refusal}
 use Rattle.chip.specs.declared.refusal.Refusal.the-variants.{Accepted}
 use Rattle.chip.proofs.Laws.Refusals.{is-accepted}
 use Rattle.point.specs.Calls.{pointRefusal}

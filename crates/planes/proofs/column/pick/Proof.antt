@@ -1,5 +1,4 @@
 -- `pick` meets its contract.
-use native.Mathlib.Omega.{arith}
 use borrow.Author.Needs.{needs}
 use Rattle.planes.proofs.column.pick.Statement.{statement}
 use Rattle.planes.proofs.column.pick.Tie as tie

@@ -1,25 +1,24 @@
 -- `place_of` meets its contract.
 use Prim.Native.Nat.{ℕ, _-_, _/_, _%_}
-use native.Mathlib.Omega.{arith}
 use mathlib.Core.Path.{_≡_, refl, sym, ap₂, _∙_}
 use Rattle.chip.specs.declared.mode.Mode.{Mode}
 use Rattle.planes.specs.Cells.{cellWidth, margin}
-use Rattle.planes.specs.Plane.{cellAt, pixelAt}
+use Rattle.planes.specs.Plane.{cellAt, pixelInCell}
 use Rattle.planes.proofs.Laws.Cells.{eight-or-six}
-use Rattle.planes.proofs.Laws.Column.{held-low}
+use Rattle.planes.proofs.Laws.Column.{from-margin}
 use borrow.Author.Needs.{needs}
 use Rattle.planes.proofs.column.place_of.Statement.{statement}
 use Rattle.planes.proofs.column.place_of.Tie as tie
 
 -- cell and pixel, by the width w of a mode's cells
-place : (m : Mode) (x d w : ℕ) → d ≡ x - margin m → cellWidth m ≡ w → (d / w ≡ cellAt m x) × (d % w ≡ pixelAt m x)
+place : (m : Mode) (x d w : ℕ) → d ≡ x - margin m → cellWidth m ≡ w → (d / w ≡ cellAt m x) × (d % w ≡ pixelInCell m x)
 place m x d w e is = rw (← is, e) (refl, refl)
 
 margin-of-requires : tie.Need-margin-of-requires
 margin-of-requires c κs = search needs
 
 sub-d : tie.Need-sub-d
-sub-d c = let s = c .before in rw (c .margin-of .ensures) (held-low (s .args .mode) (s .args .x) (s .pre))
+sub-d c = let s = c .before in rw (c .margin-of .ensures) (from-margin (s .args .mode) (s .args .x) (s .pre))
 
 cell-width-requires : tie.Need-cell-width-requires
 cell-width-requires c κs = search needs

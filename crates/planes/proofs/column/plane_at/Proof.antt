@@ -1,6 +1,4 @@
 -- `plane_at` meets its contract.
-use Prim.Native.Nat.{_<_}
-use native.Mathlib.Omega.{arith}
 use mathlib.Core.Path.{_≡_}
 use mathlib.Core.Bool.{true}
 use Rattle.chip.proofs.Laws.State.{taken-not, left-not}

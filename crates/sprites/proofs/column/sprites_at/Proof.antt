@@ -2,7 +2,7 @@
 use Prim.Native.Nat.{_-_, _≤_, _<_}
 use native.Mathlib.Omega.{arith}
 use mathlib.Core.Path.{_≡_}
-use lib.ListN.{getD, take, drop}
+use lib.ListN.{take, drop}
 use Rattle.planes.specs.Pixel.{firstNonZero}
 use Rattle.sprites.specs.Pixels.{visible, spriteColours}
 use Rattle.sprites.specs.Scanned.{noSprite}
