@@ -43,7 +43,7 @@ fn one_digit_more(n: u32, c: u8) -> u32
     if m < 4294967295 { m as u32 } else { 4294967295 }
 }
 
-// The number of a word's digits.
+// The number that a word's digits stand for, or the largest of the type.
 pub fn number_in(word: &[u8]) -> u32
     requires { ⌜ arguments.isNumber (now word) ≡ true ⌝ }
     ensures { λ n. ⌜ n ≡ min (arguments.numberIn (now (word .entry))) 4294967295 ⌝ }
