@@ -5,6 +5,7 @@ ghost use mathlib.Core.List.{[]};
 ghost use Prim.Native.Nat.{_<_};
 ghost use lib.ListN.{length};
 ghost use Rattle.chip.specs.State.{masked};
+ghost use Rattle.chip.specs.declared.mode.Mode.the-variants.{Text};
 ghost use Rattle.fetches.specs.Fetch.{value};
 ghost use Rattle.planes.specs.Plane as plane;
 ghost use Rattle.planes.specs.Pixel.{pixelOf};
@@ -34,23 +35,35 @@ struct CellPixel {
     pixel: usize,
 }
 
-// Where column x lies, which a cell holds. With the divisors written out the compiler has no division to make.
+// Where column x of Text lies, which a cell holds: in steps of six from column 8 on, for processors that cannot divide.
+fn text_place(x: usize) -> CellPixel
+    requires { ⌜ plane.inCells Text x ≡ true ⌝ }
+    ensures { λ p. ⌜ p ≡ record { cell = plane.cellAt Text x; pixel = plane.pixelInCell Text x } ⌝ }
+{
+    let mut cell = 0;
+    let mut pixel = x - 8;
+    while 6 <= pixel {
+        pixel -= 6;
+        cell += 1;
+    }
+    CellPixel {
+        cell: cell,
+        pixel: pixel,
+    }
+}
+
+// Where column x lies, which a cell holds. Cells of eight columns begin at column 0.
 fn place_of(mode: Mode, x: usize) -> CellPixel
     requires { ⌜ plane.inCells mode x ≡ true ⌝ }
     ensures { λ p. ⌜ p ≡ record { cell = plane.cellAt mode x; pixel = plane.pixelInCell mode x } ⌝ }
 {
-    let d = x - margin_of(mode);
-    let width = cell_width(mode);
-    if width == 8 {
+    if cell_width(mode) == 8 {
         return CellPixel {
-            cell: d / 8,
-            pixel: d % 8,
+            cell: x / 8,
+            pixel: x % 8,
         };
     }
-    CellPixel {
-        cell: d / 6,
-        pixel: d % 6,
-    }
+    text_place(x)
 }
 
 // Pixel k of a cell.

@@ -21,7 +21,7 @@ use Rattle.planes.proofs.Laws.Plane.{cell-read}
 pub from-margin : (m : Mode) (x : ℕ) → inCells m x ≡ true → margin m ≤ x
 from-margin m x e = leb-true _ _ (and-left (leb (margin m) x) _ e)
 
-before-end : (m : Mode) (x : ℕ) → inCells m x ≡ true → x < margin m + cellsIn m * cellWidth m
+pub before-end : (m : Mode) (x : ℕ) → inCells m x ≡ true → x < margin m + cellsIn m * cellWidth m
 before-end m x e = ltb-true _ _ (and-right (leb (margin m) x) _ e)
 
 one-of : (m : Mode) (x : ℕ) → x < margin m + cellsIn m * cellWidth m → (x - margin m) / cellWidth m < cellsIn m

@@ -1,16 +1,17 @@
 -- The plane's colour inside and outside of the cells, for every mode at once.
 use Prim.Native.Nat.{ℕ, _+_, _*_, _≤_, _<_}
-use native.Mathlib.Nat.{zero-add, add-sub-cancel-left, le-add-right}
+use native.Mathlib.Nat.{zero-add}
 use native.Mathlib.Omega.{arith}
 use mathlib.Core.Path.{_≡_, ap, _∙_}
 use mathlib.Core.List.{List, []}
 use borrow.Author.Tests.{le-leb, lt-leb, lt-ltb, le-ltb}
-use lib.Arith.{digits-lt, digits-div, digits-mod}
+use lib.Arith.{digits-lt}
 use lib.ListN.{length, getD, replicate, length-replicate, getD-replicate}
 use Rattle.chip.specs.declared.mode.Mode.{Mode}
 use Rattle.chip.proofs.Laws.Ranges.{and-false}
 use Rattle.planes.specs.Cells.{cellsIn, cellWidth, margin, cellOf, planeOf}
 use Rattle.planes.specs.Plane.{pick, noCell, planeColour}
+use Rattle.planes.specs.Counted.{Counted}
 use Rattle.planes.specs.Pixel.{over, behindPlanes, pixelOf}
 use Rattle.planes.specs.Painted.{Painted}
 use Rattle.chip.specs.Lists.{tabulate}
@@ -18,16 +19,18 @@ use Rattle.fetches.specs.Fetch.{value}
 use Rattle.fetches.proofs.Laws.{getD-each}
 use Rattle.planes.proofs.Laws.Cells.{columns-within}
 use Rattle.planes.proofs.Laws.Painted.{Shown, shown-more, shown-all}
+use Rattle.planes.proofs.Counted.{counted}
 use Rattle.planes.specs.declared.cell.Cell.{Cell}
 
 module _ (m : Mode) (cells : List Cell) where
-  -- Pixel k of cell i stands at column margin + width·i + k: there the quotient of x - margin by the width is i, and the
-  -- remainder k.
-  in-cell : (i k : ℕ) → i < cellsIn m → k < cellWidth m → planeColour m cells (margin m + (i * cellWidth m + k)) ≡ pick (getD cells i noCell) k
+  -- at pixel k of cell i, counted
+  in-cell : (x i k : ℕ) → i < cellsIn m → Counted m x i k → planeColour m cells x ≡ pick (getD cells i noCell) k
   unfolding planeColour
-  in-cell i k hi hk =
-      let within : margin m + (i * cellWidth m + k) < margin m + cellsIn m * cellWidth m = omega (arith, digits-lt {c = cellWidth m} hi hk) in
-      rw (le-leb _ _ (le-add-right (margin m) (i * cellWidth m + k)), lt-ltb _ _ within, add-sub-cancel-left, digits-div i hk, digits-mod i hk)
+  in-cell x i k h c =
+      let p = counted m x i k c in
+      let above : margin m ≤ x = omega (arith, c .column) in
+      let below : x < margin m + cellsIn m * cellWidth m = omega (arith, c .column, digits-lt {c = cellWidth m} h (c .within)) in
+      rw (le-leb _ _ above, lt-ltb _ _ below, p .0, p .1)
 
   left-of-cells : (x : ℕ) → x < margin m → planeColour m cells x ≡ 0
   unfolding planeColour
@@ -61,8 +64,8 @@ module _ (m : Mode) (r : List ℕ) (l : ℕ) (vram : List ℕ) where
     where
       same : (k : ℕ) → k < cellWidth m → over (pick (value (cellOf m r l i) vram) k) (behindPlanes r) ≡ colour (at + k)
       same k hk =
-          let x : at + k ≡ margin m + (i * cellWidth m + k) = omega arith in
-          rw (x, in-cell m (value (planeOf m r l) vram) i k h hk, cell-read i h)
+          let c : Counted m (at + k) i k = record { column = omega arith; within = hk } in
+          rw (in-cell m (value (planeOf m r l) vram) (at + k) i k h c, cell-read i h)
 
   -- all cells
   pub shown-plane : {line : List ℕ} → Shown line colour (behindPlanes r) (margin m + cellsIn m * cellWidth m) → line ≡ tabulate 256 colour

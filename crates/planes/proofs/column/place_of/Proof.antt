@@ -1,24 +1,23 @@
 -- `place_of` meets its contract.
-use Prim.Native.Nat.{ℕ, _-_, _/_, _%_}
+use Prim.Native.Nat.{ℕ, _/_, _%_}
+use native.Mathlib.Nat.{sub-zero}
 use mathlib.Core.Path.{_≡_, refl, sym, ap₂, _∙_}
 use Rattle.chip.specs.declared.mode.Mode.{Mode}
-use Rattle.planes.specs.Cells.{cellWidth, margin}
+use Rattle.chip.specs.declared.mode.Mode.the-variants.{Text}
+use Rattle.planes.specs.Cells.{cellWidth}
 use Rattle.planes.specs.Plane.{cellAt, pixelInCell}
-use Rattle.planes.proofs.Laws.Cells.{eight-or-six}
-use Rattle.planes.proofs.Laws.Column.{from-margin}
+use Rattle.planes.proofs.Laws.Cells.{text-alone, no-margin}
 use borrow.Author.Needs.{needs}
 use Rattle.planes.proofs.column.place_of.Statement.{statement}
 use Rattle.planes.proofs.column.place_of.Tie as tie
 
--- cell and pixel, by the width w of a mode's cells
-place : (m : Mode) (x d w : ℕ) → d ≡ x - margin m → cellWidth m ≡ w → (d / w ≡ cellAt m x) × (d % w ≡ pixelInCell m x)
-place m x d w e is = rw (← is, e) (refl, refl)
+-- in cells of eight columns
+in-eights : (m : Mode) (x : ℕ) → cellWidth m ≡ 8 → (x / 8 ≡ cellAt m x) × (x % 8 ≡ pixelInCell m x)
+in-eights m x e = rw (no-margin m e, e, sub-zero) (refl, refl)
 
-margin-of-requires : tie.Need-margin-of-requires
-margin-of-requires c κs = search needs
-
-sub-d : tie.Need-sub-d
-sub-d c = let s = c .before in rw (c .margin-of .ensures) (from-margin (s .args .mode) (s .args .x) (s .pre))
+-- behind the test of the width
+is-text : (c : tie.Else1) → c .before .before .args .mode ≡ Text
+is-text c = text-alone (c .before .before .args .mode) (λ eight. c .if1 .left (c .before .cell-width .ensures ∙ eight))
 
 cell-width-requires : tie.Need-cell-width-requires
 cell-width-requires c κs = search needs
@@ -26,18 +25,15 @@ cell-width-requires c κs = search needs
 returns : tie.Need-returns
 returns c =
     let w = c .before in
-    let a = w .before .before .args in
-    let eight = sym (w .cell-width .ensures) ∙ c .if1 .taken in
-    let p = place (a .mode) (a .x) (a .x - w .before .margin-of .result) 8 (rw (w .before .margin-of .ensures)) eight in
+    let a = w .before .args in
+    let p = in-eights (a .mode) (a .x) (sym (w .cell-width .ensures) ∙ c .if1 .taken) in
     ap₂ (λ (i k : ℕ). record { cell = i; pixel = k }) (p .0) (p .1)
+
+text-place-requires : tie.Need-text-place-requires
+text-place-requires c κs = rw (is-text c) at (c .before .before .pre)
 
 returns-2 : tie.Need-returns-2
-returns-2 c =
-    let w = c .before in
-    let a = w .before .before .args in
-    let six = eight-or-six (a .mode) (λ eight. c .if1 .left (w .cell-width .ensures ∙ eight)) in
-    let p = place (a .mode) (a .x) (a .x - w .before .margin-of .result) 6 (rw (w .before .margin-of .ensures)) six in
-    ap₂ (λ (i k : ℕ). record { cell = i; pixel = k }) (p .0) (p .1)
+returns-2 c = rw (is-text (c .before)) (c .text-place .ensures)
 
 pub place-of-spec : {M : Type 1} → statement M
-place-of-spec = tie.close (tie.spec margin-of-requires sub-d cell-width-requires returns returns-2)
+place-of-spec = tie.close (tie.spec cell-width-requires returns text-place-requires returns-2)
