@@ -432,7 +432,7 @@ fn plant_all(options: &Options, passed: &mut u64, failed: &mut u64) {
     // Sprites that meet at the outermost columns alone hardly ever come up at random.
     let outermost = faults::FIRST_COLUMN_FORGOTTEN..=faults::LAST_COLUMNS_FORGOTTEN;
     let hidden = faults::ONLY_VISIBLE_COINCIDE..=faults::LAST_COLUMNS_FORGOTTEN;
-    let of_points = faults::POINT_OF_NEIGHBOUR..=faults::BESIDE_NOT_FETCHED;
+    let of_points = faults::POINT_OF_NEIGHBOUR..=faults::POINT_TEXT_BIT_6;
     for number in 1..=faults::LAST {
         if of_points.contains(&number) {
             let points = random(options).filter(|numbered| matches!(numbered, Numbered::Points(_)));

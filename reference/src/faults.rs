@@ -144,8 +144,23 @@ pub const POINT_WITHOUT_EXTERNAL: u32 = 67;
 /// A drawn sprite beside the point has nothing but its Y fetched.
 pub const BESIDE_NOT_FETCHED: u32 = 68;
 
+/// A point in Text takes the cells as 7 wide.
+pub const POINT_TEXT_7_WIDE: u32 = 69;
+/// A point in Text has its column counted from column 7.
+pub const POINT_TEXT_FROM_7: u32 = 70;
+/// A point in the first column of a Text cell but the first is bit 6 of the
+/// cell before.
+pub const POINT_TEXT_BIT_6: u32 = 71;
+/// A line in Text takes the cells as 7 wide.
+pub const LINE_TEXT_7_WIDE: u32 = 72;
+/// A line in Text has its columns counted from column 7.
+pub const LINE_TEXT_FROM_7: u32 = 73;
+/// A line in Text has bit 6 of the cell before in the first column of each cell
+/// but the first.
+pub const LINE_TEXT_BIT_6: u32 = 74;
+
 /// The highest fault number.
-pub const LAST: u32 = 68;
+pub const LAST: u32 = 74;
 
 /// A few words for each fault, from 1 up.
 pub const NAMES: [&str; LAST as usize] = [
@@ -217,7 +232,18 @@ pub const NAMES: [&str; LAST as usize] = [
     "a point takes Text's cells as 8 wide",
     "a point ignores external video",
     "a sprite beside a point is not fetched",
+    "a point takes Text's cells as 7 wide",
+    "a point counts Text's columns from 7",
+    "a point counts Text's bits one too far",
+    "a line takes Text's cells as 7 wide",
+    "a line counts Text's columns from 7",
+    "a line counts Text's bits one too far",
 ];
+
+/// The ways to miscount Text's cells, for a point and for a line: 7 wide, from
+/// column 7, a bit too far.
+pub const POINT_MISCOUNTS: [u32; 3] = [POINT_TEXT_7_WIDE, POINT_TEXT_FROM_7, POINT_TEXT_BIT_6];
+pub const LINE_MISCOUNTS: [u32; 3] = [LINE_TEXT_7_WIDE, LINE_TEXT_FROM_7, LINE_TEXT_BIT_6];
 
 thread_local! {
     static PLANTED: Cell<u32> = const { Cell::new(0) };
@@ -231,4 +257,21 @@ pub fn plant(number: u32) {
 /// Whether that fault is the planted one.
 pub fn planted(number: u32) -> bool {
     PLANTED.with(|cell| cell.get() == number)
+}
+
+/// The cell and bit that the planted one of these ways gives a column of Text,
+/// counted from the first with a cell. None leaves the right ones.
+pub fn miscounted(ways: [u32; 3], from_first: usize) -> Option<(usize, usize)> {
+    let [is_7_wide, is_from_7, is_too_far] = ways.map(planted);
+    if is_7_wide {
+        Some((from_first / 7, from_first % 7))
+    } else if is_from_7 {
+        Some(((from_first + 1) / 6, (from_first + 1) % 6))
+    } else if is_too_far {
+        // Six columns are taken off only while more than six are left.
+        let before = from_first.checked_sub(1)?;
+        Some((before / 6, before % 6 + 1))
+    } else {
+        None
+    }
 }

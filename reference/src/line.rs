@@ -3,7 +3,7 @@
 use std::collections::BTreeSet;
 use std::ops::RangeInclusive;
 
-use crate::faults::{self, planted};
+use crate::faults::{self, miscounted, planted};
 use crate::sprites::{self, Scan};
 use crate::state::{byte_at, State, C, F, FIFTH, FIFTH_NUMBER, LINE_BYTES};
 
@@ -93,9 +93,10 @@ fn pattern_colour(state: &State, vram: &[u8], mode: Mode, line: usize, x: usize)
         Mode::Blank => 0,
         Mode::Text if !(8..=247).contains(&x) => 0,
         Mode::Text => {
-            let cell = cell(state, vram, mode, line, (x - 8) / 6);
+            let (number, from_left) = text_cell(x);
+            let cell = cell(state, vram, mode, line, number);
             let pattern = byte_at(vram, cell.pattern_at);
-            choose(pattern, (x - 8) % 6, state.registers[7])
+            choose(pattern, from_left, state.registers[7])
         }
         Mode::Multicolor => {
             let cell = cell(state, vram, mode, line, x / 8);
@@ -113,6 +114,12 @@ fn pattern_colour(state: &State, vram: &[u8], mode: Mode, line: usize, x: usize)
             choose(pattern, x % 8, colours)
         }
     }
+}
+
+/// The cell of a column from 8 to 247 in Text, and the bit within it.
+fn text_cell(x: usize) -> (usize, usize) {
+    let right = ((x - 8) / 6, (x - 8) % 6);
+    miscounted(faults::LINE_MISCOUNTS, x - 8).unwrap_or(right)
 }
 
 /// Bit 1 gives the high colour, bit 0 the low one; the top bit is leftmost.

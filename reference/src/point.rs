@@ -2,7 +2,7 @@
 //! its line, byte by byte as they are fetched. No line is drawn for it, so that
 //! a drawn line is a second opinion.
 
-use crate::faults::{self, planted};
+use crate::faults::{self, miscounted, planted};
 use crate::line::{mode, Mode};
 use crate::refusal::{self, refused, Answer};
 use crate::state::{byte_at, State, LINES, LINE_BYTES, VRAM_BYTES};
@@ -105,7 +105,11 @@ fn cell(mode: Mode, column: usize) -> Option<(usize, usize)> {
         _ => column,
     };
     let next = usize::from(planted(faults::POINT_OF_NEIGHBOUR));
-    Some((from_first / width + next, from_first % width))
+    let right = (from_first / width + next, from_first % width);
+    match mode {
+        Mode::Text => miscounted(faults::POINT_MISCOUNTS, from_first).or(Some(right)),
+        _ => Some(right),
+    }
 }
 
 /// The colour that the one cell has at the column; 0 where there is no cell.

@@ -758,3 +758,32 @@ fn fault_68_a_sprite_beside_the_point() {
     let wrong = [&cell_and_ys[..], &first].concat();
     shows(faults::BESIDE_NOT_FETCHED, case, right, wrong);
 }
+
+/// What points, and then the drawn line, have at columns of Text. Its cells
+/// have their bits 0 and 6 set, of which 6 is not shown; cell 1 is empty.
+fn text_twice() -> [[u32; 7]; 2] {
+    let columns = [7, 8, 14, 20, 22, 247, 248];
+    let mut lent = Lent::with_registers([0, 0x50, 2, 0, 0, 0, 0, 0xF4]);
+    lent.vram[0x0000] = 0x82;
+    lent.vram[0x0801] = 1;
+    lent.draw(0);
+    let drawn = columns.map(|column| u32::from(lent.line[column as usize]));
+    [columns.map(|column| lent.point(0, column)), drawn]
+}
+
+/// Each mistake is made by points alone and by lines alone.
+#[test]
+fn faults_69_to_74_counting_in_text() {
+    let right = [4, 15, 4, 15, 4, 4, 4];
+    let wrongs = [
+        [4, 15, 15, 4, 15, 4, 4],
+        [4, 4, 4, 4, 4, 15, 4],
+        [4, 15, 15, 4, 4, 4, 4],
+    ];
+    for (fault, wrong) in faults::POINT_MISCOUNTS.into_iter().zip(wrongs) {
+        shows(fault, text_twice, [right; 2], [wrong, right]);
+    }
+    for (fault, wrong) in faults::LINE_MISCOUNTS.into_iter().zip(wrongs) {
+        shows(fault, text_twice, [right; 2], [right, wrong]);
+    }
+}
