@@ -58,25 +58,6 @@ columns-within GraphicsII = omega arith
 columns-within Multicolor = omega arith
 columns-within Text = omega arith
 
--- Text alone has cells that are not eight columns wide
-pub text-alone : (m : Mode) → (cellWidth m ≡ 8 → ⊥) → m ≡ Text
-text-alone Blank h = absurd (h refl)
-text-alone GraphicsI h = absurd (h refl)
-text-alone GraphicsII h = absurd (h refl)
-text-alone Multicolor h = absurd (h refl)
-text-alone Text h = refl
-
-pub eight-or-six : (m : Mode) → (cellWidth m ≡ 8 → ⊥) → cellWidth m ≡ 6
-eight-or-six m h = ap cellWidth (text-alone m h)
-
--- where they are, they begin at column 0
-pub no-margin : (m : Mode) → cellWidth m ≡ 8 → margin m ≡ 0
-no-margin Blank h = refl
-no-margin GraphicsI h = refl
-no-margin GraphicsII h = refl
-no-margin Multicolor h = refl
-no-margin Text h = omega arith
-
 -- so does each cell's run
 pub run-within : (m : Mode) (i : ℕ) → i < cellsIn m → margin m + i * cellWidth m + cellWidth m < 257
 run-within Blank i h = absurd (not-suc-le-zero h)
@@ -92,3 +73,22 @@ cells-few GraphicsI = omega arith
 cells-few GraphicsII = omega arith
 cells-few Multicolor = omega arith
 cells-few Text = omega arith
+
+-- Text alone has cells that are not eight columns wide
+pub text-alone : (m : Mode) → (cellWidth m ≡ 8 → ⊥) → m ≡ Text
+text-alone Blank h = absurd (h refl)
+text-alone GraphicsI h = absurd (h refl)
+text-alone GraphicsII h = absurd (h refl)
+text-alone Multicolor h = absurd (h refl)
+text-alone Text h = refl
+
+pub eight-or-six : (m : Mode) → (cellWidth m ≡ 8 → ⊥) → cellWidth m ≡ 6
+eight-or-six m h = ap cellWidth (text-alone m h)
+
+-- cells of eight columns begin at column 0
+pub no-margin : (m : Mode) → cellWidth m ≡ 8 → margin m ≡ 0
+no-margin Blank h = refl
+no-margin GraphicsI h = refl
+no-margin GraphicsII h = refl
+no-margin Multicolor h = refl
+no-margin Text h = omega arith

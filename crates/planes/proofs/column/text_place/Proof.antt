@@ -16,14 +16,15 @@ Inv-loop x cell₀ pixel₀ cell pixel = x ≡ 8 + (cell * 6 + pixel)
 abbrev μ-loop : tie.MeasureT-loop
 μ-loop x cell₀ pixel₀ cell pixel = pixel
 
-in-or-right-of-cells : (c : tie.Start Inv-loop μ-loop) → 8 ≤ c .args .x
-in-or-right-of-cells c = from-margin Text (c .args .x) (c .pre)
+-- the column is not in the left margin
+past-margin : (c : tie.Start Inv-loop μ-loop) → 8 ≤ c .args .x
+past-margin c = from-margin Text (c .args .x) (c .pre)
 
 sub-pixel : tie.Need-sub-pixel Inv-loop μ-loop
-sub-pixel c = omega (arith, in-or-right-of-cells c)
+sub-pixel c = omega (arith, past-margin c)
 
 loop-holds : tie.Need-loop-holds Inv-loop μ-loop
-loop-holds c = omega (arith, in-or-right-of-cells c)
+loop-holds c = omega (arith, past-margin c)
 
 add-cell : tie.Need-add-cell Inv-loop μ-loop
 add-cell c = omega (arith, c .before .loop .inv, before-end Text (c .before .before .args .x) (c .before .before .pre))
