@@ -35,16 +35,22 @@ struct CellPixel {
     pixel: usize,
 }
 
-// Where column x of Text lies, which a cell holds: in steps of six from column 8 on, for processors that cannot divide.
+// Where column x of Text lies, which a cell holds: counted from column 8 on, by 32 cells of six columns at once, then by 16, 8,
+// 4, 2 and 1. Steps of one size are a loop that compilers turn back into a division.
 fn text_place(x: usize) -> CellPixel
     requires { ⌜ plane.inCells Text x ≡ true ⌝ }
     ensures { λ p. ⌜ p ≡ record { cell = plane.cellAt Text x; pixel = plane.pixelInCell Text x } ⌝ }
 {
     let mut cell = 0;
     let mut pixel = x - 8;
-    while 6 <= pixel {
-        pixel -= 6;
-        cell += 1;
+    let mut cells = 64;
+    while 1 < cells {
+        cells /= 2;
+        let columns = cells * 6;
+        if columns <= pixel {
+            pixel -= columns;
+            cell += cells;
+        }
     }
     CellPixel {
         cell: cell,

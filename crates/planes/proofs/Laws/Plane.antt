@@ -24,13 +24,13 @@ use Rattle.planes.specs.declared.cell.Cell.{Cell}
 
 module _ (m : Mode) (cells : List Cell) where
   -- at pixel k of cell i, counted
-  in-cell : (x i k : ℕ) → i < cellsIn m → Counted m x i k → planeColour m cells x ≡ pick (getD cells i noCell) k
+  in-cell : (x i k : ℕ) → Counted m x i k → planeColour m cells x ≡ pick (getD cells i noCell) k
   unfolding planeColour
-  in-cell x i k h c =
+  in-cell x i k c =
       let p = counted m x i k c in
       let above : margin m ≤ x = omega (arith, c .column) in
-      let below : x < margin m + cellsIn m * cellWidth m = omega (arith, c .column, digits-lt {c = cellWidth m} h (c .within)) in
-      rw (le-leb _ _ above, lt-ltb _ _ below, p .0, p .1)
+      let below : x < margin m + cellsIn m * cellWidth m = omega (arith, c .column, digits-lt {c = cellWidth m} (c .cell) (c .pixel)) in
+      rw (le-leb _ _ above, lt-ltb _ _ below, ← p .0, ← p .1)
 
   left-of-cells : (x : ℕ) → x < margin m → planeColour m cells x ≡ 0
   unfolding planeColour
@@ -64,8 +64,8 @@ module _ (m : Mode) (r : List ℕ) (l : ℕ) (vram : List ℕ) where
     where
       same : (k : ℕ) → k < cellWidth m → over (pick (value (cellOf m r l i) vram) k) (behindPlanes r) ≡ colour (at + k)
       same k hk =
-          let c : Counted m (at + k) i k = record { column = omega arith; within = hk } in
-          rw (in-cell m (value (planeOf m r l) vram) (at + k) i k h c, cell-read i h)
+          let c : Counted m (at + k) i k = record { cell = h; pixel = hk; column = omega arith } in
+          rw (in-cell m (value (planeOf m r l) vram) (at + k) i k c, cell-read i h)
 
   -- all cells
   pub shown-plane : {line : List ℕ} → Shown line colour (behindPlanes r) (margin m + cellsIn m * cellWidth m) → line ≡ tabulate 256 colour
