@@ -1,8 +1,9 @@
 #!/usr/bin/env python3
 """Finds divisions by anything but a power of two. Prints each with its line, and exits 1 if there is one.
 
-divisions.py sources ROOT CRATE...         in the code of the crates, and of those that they stand on by crates.txt
-divisions.py object FILE [FUNCTION...]     divide instructions in machine code, which has to have the functions
+divisions.py sources ROOT CRATE...         in the code of the crates, and of those that they stand on by ROOT/crates.txt
+divisions.py object FILE [FUNCTION...]     in machine code, which has to have the functions: divide instructions, calls of
+                                           routines that divide, and products of which the upper half is taken
 """
 
 import pathlib
@@ -10,54 +11,66 @@ import re
 import subprocess
 import sys
 
-# Neither is code: what a function promises, and what names the definitions for that.
-CONTRACT = re.compile(r"\b(?:requires|ensures)\s*\{")
-NOT_CODE = re.compile(r"//[^\n]*|\bghost use [^;]*;|b?\"(?:\\.|[^\"\\])*\"|b?'(?:\\.|[^'\\])'")
-# The divisor is one whole literal: no call, field or further digit follows.
+# None of these is code.
+ASIDE = re.compile(r"//[^\n]*|^\s*ghost use [^;]*;|b?\"(?:\\.|[^\"\\])*\"|b?'(?:\\.|[^'\\])'", re.MULTILINE)
+CONTRACT = re.compile(r"^\s*(?:requires|ensures)(?:\s+\w+)?\s*\{", re.MULTILINE)
+RAW_STRING = re.compile(r"\bb?r#*\"")
+# With the divisor, if that is one whole literal: no call, field or further digit follows.
 QUOTIENT = re.compile(r"[/%]=?\s*(?:(0x[0-9A-Fa-f_]+|0b[01_]+|[0-9][0-9_]*)(?:[ui](?:8|16|32|64|128|size))?(?!\w|\s*[.(\[]))?")
 
-# div, idiv and those of floating numbers, as divsd.
-DIVIDES = re.compile(r"[a-z]{0,2}div[a-z]*$")
-PREFIXES = {"lock", "rep", "repz", "repnz", "bnd", "notrack", "data16", "addr32", "cs", "ds", "es", "fs", "gs", "ss"}
-# What a compiler calls where there is no instruction for it, as __udivti3.
-ROUTINE = re.compile(r"__u?(?:div|mod)[a-z]*[0-9]$")
+# As div, idiv and divsd.
+DIVIDE = re.compile(r"[a-z]{0,2}div[a-z]*")
+# As __udivti3, which a compiler calls where there is no instruction.
+ROUTINE = re.compile(r"__u?(?:div|mod)[a-z]*[0-9]")
+# What a compiler takes in place of a quotient by a constant, of numbers as wide as a register: known by its one operand or its
+# name.
+UPPER_HALF = re.compile(r"i?mul[bwlq]?\s+[^,]+|mulx\s.*|v?pmulh.*")
 
 
-def blanked(text):
+def blank(found):
     """As many blanks, with the lines kept."""
-    return re.sub(r"[^\n]", " ", text)
+    return re.sub(r"[^\n]", " ", found if isinstance(found, str) else found.group())
 
 
 def code_of(text):
     """The code alone, each piece at its place."""
-    text = NOT_CODE.sub(lambda found: blanked(found.group()), text)
+    if RAW_STRING.search(text):
+        sys.exit("a raw string, which this check does not read")
+    text = ASIDE.sub(blank, text)
     while contract := CONTRACT.search(text):
         end, depth = contract.end(), 1
         while depth:
             depth += {"{": 1, "}": -1}.get(text[end], 0)
             end += 1
-        text = text[: contract.start()] + blanked(text[contract.start() : end]) + text[end:]
+        text = text[: contract.start()] + blank(text[contract.start() : end]) + text[end:]
     return text
 
 
 def is_power_of_two(literal):
-    number = int(literal.replace("_", ""), 0)
+    digits = literal.replace("_", "")
+    number = int(digits) if digits.isdigit() else int(digits, 0)
     return number > 0 and number & (number - 1) == 0
+
+
+def quotients(text):
+    """The number of each line that divides, from 1 up, and whether it is by a power of two."""
+    code = code_of(text)
+    for found in QUOTIENT.finditer(code):
+        yield code.count("\n", 0, found.start()) + 1, bool(found[1]) and is_power_of_two(found[1])
 
 
 def crates_under(root, names):
     """These crates and all that they stand on."""
-    listed = {}
-    for line in (root / "crates.txt").read_text(encoding="utf-8").splitlines():
-        name, colon, others = line.partition(":")
-        if colon and not line.startswith("#"):
-            listed[name] = others.split()
-    found, left = set(), list(names)
+    lines = (root / "crates.txt").read_text(encoding="utf-8").splitlines()
+    listed = dict(line.split(":") for line in lines if ":" in line and not line.startswith("#"))
+    found, left = [], list(names)
     while left:
         name = left.pop()
+        if name not in listed:
+            sys.exit(f"{name} is not in crates.txt")
         if name not in found:
-            found.add(name)
-            left += listed[name]
+            found.append(name)
+            left += listed[name].split()
     return sorted(found)
 
 
@@ -70,14 +83,20 @@ def in_sources(root, names):
             sys.exit(f"{crate} has no source")
         for file in files:
             text = file.read_text(encoding="utf-8")
-            lines = text.split("\n")
-            for found in QUOTIENT.finditer(code := code_of(text)):
-                if found[1] and is_power_of_two(found[1]):
+            for number, by_power in quotients(text):
+                if by_power:
                     right += 1
                 else:
-                    number = code.count("\n", 0, found.start())
-                    wrong.append(f"{file.relative_to(root)}:{number + 1}: {lines[number].strip()}")
+                    wrong.append(f"{file.relative_to(root)}:{number}: {text.splitlines()[number - 1].strip()}")
+    if not wrong and not right:
+        sys.exit("no quotient at all, so that nothing can have been looked at")
     return wrong, f"{right} quotients and remainders in {len(crates)} crates, all by powers of two"
+
+
+def is_division(instruction):
+    """Operands that go through memory have their commas in brackets."""
+    operands = re.sub(r"\([^)]*\)", "", instruction)
+    return any(map(DIVIDE.fullmatch, instruction.split())) or UPPER_HALF.fullmatch(operands)
 
 
 def in_object(file, functions):
@@ -89,13 +108,12 @@ def in_object(file, functions):
         if start := re.match(r"[0-9a-f]+ <(.*)>:$", line):
             seen.append(start[1])
         elif call := re.match(r"\s+[0-9a-f]+: R_\w+\s+([^\s+-]+)", line):
-            if ROUTINE.match(call[1]):
+            if ROUTINE.fullmatch(call[1]):
                 wrong.append(f"{file}: {seen[-1]}: calls {call[1]}")
         elif instruction := re.match(r"\s+[0-9a-f]+:\t(.*)", line):
             instructions += 1
-            words = [word for word in instruction[1].split() if word not in PREFIXES]
-            if words and DIVIDES.match(words[0]):
-                wrong.append(f"{file}: {seen[-1]}: {' '.join(words)}")
+            if is_division(instruction[1].strip()):
+                wrong.append(f"{file}: {seen[-1]}: {' '.join(instruction[1].split())}")
     if missing := [name for name in functions if name not in seen]:
         sys.exit(f"{file} has no {' and no '.join(missing)}")
     if not instructions:
@@ -103,12 +121,16 @@ def in_object(file, functions):
     return wrong, f"{instructions} instructions, none that divides"
 
 
-def main():
-    what, where, *names = sys.argv[1:]
-    wrong, report = {"sources": lambda: in_sources(pathlib.Path(where), names), "object": lambda: in_object(where, names)}[what]()
+def main(words):
+    if len(words) >= 3 and words[0] == "sources":
+        wrong, report = in_sources(pathlib.Path(words[1]), words[2:])
+    elif len(words) >= 2 and words[0] == "object":
+        wrong, report = in_object(words[1], words[2:])
+    else:
+        sys.exit(__doc__)
     print("\n".join(wrong) if wrong else report)
     sys.exit(1 if wrong else 0)
 
 
 if __name__ == "__main__":
-    main()
+    main(sys.argv[1:])

@@ -7,9 +7,41 @@ import subprocess
 import sys
 import tempfile
 
+sys.dont_write_bytecode = True
+from divisions import crates_under, quotients
+
 HERE = pathlib.Path(__file__).resolve().parent
 ROOT = HERE.parent.parent
 LIBRARY = "birdcleft"
+
+# Found are these, each by the line that has its division:
+FOUND = (
+    "d / 6", "d % 6", "d / width", "d % (8)", "d /6", "d / 0x30", "d / 0b110", "d / 8_0", "d / 12u8", "d / 8.max(n)", "d / 0",
+    "8 / 4 / 3", "d / table[0]", "16 % d", "d / 6 // not by 8", "d / -8", "d / !8", "d\n        / 6", "d /\n        6",
+    "d;\n    d /= 6", "d;\n    d %= 6", "if ensures { d / 6 } else { d }", "d / 06",
+)
+# These are not, being by a power of two, or no code.
+LEFT = (
+    "d / 8", "d % 2", "d/64", "d / 0x40", "d / 0b1000", "d / 1_024", "d % 16u8", "d / 128 as usize", "(d / 4) % 8", "d / 1", "d / 08",
+    "d // / 6", "b'/'", 'b"a / 6"', "d >> 3 & 7", "d;\n    d %= 8",
+)
+# Contracts divide as the definitions do.
+CONTRACTS = """
+    requires { ⌜ d / 6 < 40 ⌝ }
+    ensures cell { λ p. ⌜ p .cell ≡ d / 6 ⌝ }
+    ensures { λ p. ⌜ p ≡ record { cell = d / 6; pixel = d % 6 } ⌝ }
+"""
+OBJECTS = (
+    ("quotient", "unsigned long f(unsigned long a, unsigned long b) { return a / b; }", "div"),
+    ("remainder", "int f(int a, int b) { return a % b; }", "idiv"),
+    ("fraction", "double f(double a, double b) { return a / b; }", "divsd"),
+    ("wide", "unsigned __int128 f(unsigned __int128 a, unsigned __int128 b) { return a / b; }", "calls __udivti3"),
+    ("six", "unsigned long f(unsigned long a) { return a / 6; }", "mul"),
+    # Of a narrower number a quotient by 6 is a product like any other: this is the sources' to find.
+    ("narrow", "unsigned f(unsigned a) { return a / 6; }", None),
+    ("eight", "unsigned long f(unsigned long a) { return a / 8; }", None),
+    ("product", "unsigned long f(unsigned long a, unsigned long *b) { return a * b[a]; }", None),
+)
 
 passed = failed = 0
 
@@ -20,59 +52,50 @@ def check(holds, what, said):
         passed += 1
     else:
         failed += 1
-        print(f"FAILED: {what}: {said.strip()}")
+        print(f"FAILED: {what}: {said}")
 
 
 def said_of(*words):
     """How the check ended, and what it printed."""
     run = subprocess.run([HERE / "divisions.py", *words], capture_output=True, text=True)
-    return run.returncode, run.stdout + run.stderr
+    return run.returncode, (run.stdout + run.stderr).strip()
 
 
-# What is planted stands at the end of a function of its own. Found are these, each by its line:
-FOUND = (
-    "d / 6", "d % 6", "d / width", "d % (8)", "d /6", "d / 0x30", "d / 8_0", "d / 12u8", "d / 8.max(n)", "d / 0", "8 / 4 / 3",
-    "d / table[0]", "16 % d", "d / 6 // not by 8", "d / -8", "d / !8", "d\n        / 6", "d /\n        6", "d;\n    d /= 6",
-)
-# And these are not, being by a power of two, or no code.
-LEFT = (
-    "d / 8", "d % 2", "d/64", "d / 0x40", "d / 1_024", "d % 16u8", "d / 128 as usize", "(d / 4) % 8", "d / 1", "d // / 6", "b'/'",
-    'b"a / 6"', "d >> 3 & 7", "d;\n    d %= 8",
-)
-# Contracts divide as the definitions do.
-CONTRACT = "requires { ⌜ d / 6 < 40 ⌝ }\n    ensures { λ p. ⌜ p ≡ record { cell = d / 6; pixel = d % 6 } ⌝ }\n"
+def function(expression):
+    return f"\nghost use Prim.Native.Nat.{{_/_, _%_}};\nfn planted(d: usize) -> usize{CONTRACTS}{{\n    {expression}\n}}\n"
 
 
-def planted(file, expression):
-    """The check's end and words with the expression planted in the file, and the line that it has to print."""
-    root = file.parents[3]
+def line_that_divides(expression):
+    """Counted from the expression's first."""
+    return next((n for n, line in enumerate(expression.split("\n")) if "/" in line or "%" in line), 0)
+
+
+def try_expressions():
+    first = function("\0")[: function("\0").index("\0")].count("\n") + 1
+    for expression in FOUND + LEFT:
+        wrong = [number for number, by_power in quotients(function(expression)) if not by_power]
+        wanted = [first + line_that_divides(expression)] if expression in FOUND else []
+        check(wrong == wanted, f"{expression!r} is {'found' if wanted else 'left'}", wrong)
+
+
+def try_functions(file):
+    """Behind each item of a file, so that nothing there hides what comes next."""
+    text = file.read_text(encoding="utf-8")
+    for end in (n for n in range(len(text)) if text.startswith("\n}\n", n)):
+        planted = text[: end + 3] + function("d / 6") + text[end + 3 :]
+        wrong = [planted.split("\n")[number - 1].strip() for number, by_power in quotients(planted) if not by_power]
+        check(wrong == ["d / 6"], f"a division by 6 behind character {end} of {file.name}", wrong)
+
+
+def try_crate(copy, crate):
+    """As a user sees it: the line is printed, and the check has failed."""
+    file = sorted((copy / "crates" / crate / "src").rglob("*.rt"))[-1]
     before = file.read_text(encoding="utf-8")
-    head = f"{before}\nghost use Prim.Native.Nat.{{_/_, _%_}};\nfn planted(d: usize) -> usize\n    {CONTRACT}{{\n    "
-    file.write_text(f"{head}{expression}\n}}\n", encoding="utf-8")
-    ended, said = said_of("sources", root, LIBRARY)
+    file.write_text(before + function("d / 6"), encoding="utf-8")
+    number = file.read_text(encoding="utf-8").split("\n").index("    d / 6") + 1
+    ended, said = said_of("sources", copy, LIBRARY)
+    check(ended == 1 and said == f"{file.relative_to(copy)}:{number}: d / 6", f"a division by 6 in {crate}", said)
     file.write_text(before, encoding="utf-8")
-    lines = expression.split("\n")
-    divides = next((n for n, line in enumerate(lines) if "/" in line or "%" in line), 0)
-    number = head.count("\n") + divides + 1
-    return ended, said, f"{file.relative_to(root)}:{number}: {lines[divides].strip()}\n"
-
-
-def try_expressions(file):
-    for expression in FOUND:
-        ended, said, place = planted(file, expression)
-        check(ended == 1 and said == place, f"found is {expression!r}", said)
-    for expression in LEFT:
-        ended, said, _ = planted(file, expression)
-        check(ended == 0, f"left is {expression!r}", said)
-
-
-def try_crates(copy):
-    lines = (copy / "crates.txt").read_text(encoding="utf-8").splitlines()
-    below = next(line.split(":")[1].split() for line in lines if line.startswith(f"{LIBRARY}:"))
-    for crate in [LIBRARY, *below]:
-        for file in sorted((copy / "crates" / crate / "src").rglob("*.rt")):
-            ended, said, place = planted(file, "d / 6")
-            check(ended == 1 and said == place, f"a division by 6 in {file.relative_to(copy)}", said)
 
 
 def try_sources(copy):
@@ -80,13 +103,28 @@ def try_sources(copy):
     shutil.copy(ROOT / "crates.txt", copy)
     ended, said = said_of("sources", copy, LIBRARY)
     check(ended == 0, "the sources as they are", said)
+    for crate in crates_under(copy, [LIBRARY]):
+        try_crate(copy, crate)
+        for file in (copy / "crates" / crate / "src").rglob("*.rt"):
+            try_functions(file)
 
-    try_crates(copy)
-    try_expressions(copy / "crates/planes/src/column.rt")
-
-    shutil.rmtree(copy / "crates/sprites/src")
+    (copy / "crates/plain/src").mkdir(parents=True)
+    (copy / "crates/plain/src/lib.rt").write_text(function("d"), encoding="utf-8")
+    with (copy / "crates.txt").open("a", encoding="utf-8") as listed:
+        listed.write("plain:\n")
+    column = copy / "crates/planes/src/column.rt"
+    column.write_text(column.read_text(encoding="utf-8") + function('br"a"'), encoding="utf-8")
+    for words, why in (
+        ((LIBRARY,), "a raw string"),
+        (("plain",), "no quotient at all"),
+        (("sprite",), "sprite is not in crates.txt"),
+        ((), "divisions.py sources ROOT CRATE"),
+    ):
+        ended, said = said_of("sources", copy, *words)
+        check(ended == 1 and why in said, f"the sources of {' '.join(words)}", said)
+    shutil.rmtree(copy / "crates/chip/src")
     ended, said = said_of("sources", copy, LIBRARY)
-    check(ended == 1 and "sprites has no source" in said, "a crate without sources", said)
+    check(ended == 1 and "chip has no source" in said, "a crate without sources", said)
 
 
 def compiled(folder, name, code):
@@ -95,42 +133,32 @@ def compiled(folder, name, code):
     return folder / f"{name}.o"
 
 
-OBJECTS = (
-    ("quotient", "unsigned long f(unsigned long a, unsigned long b) { return a / b; }", "div"),
-    ("remainder", "int f(int a, int b) { return a % b; }", "idiv"),
-    ("fraction", "double f(double a, double b) { return a / b; }", "divsd"),
-    ("wide", "unsigned __int128 f(unsigned __int128 a, unsigned __int128 b) { return a / b; }", "calls __udivti3"),
-    # The compiler makes a multiplication of it: this is the sources' to find.
-    ("six", "unsigned long f(unsigned long a) { return a / 6; }", None),
-    ("eight", "unsigned long f(unsigned long a) { return a / 8; }", None),
-)
-
-
 def try_objects(folder):
     for name, code, found in OBJECTS:
         file = compiled(folder, name, code)
         ended, said = said_of("object", file, "f")
         if found:
-            check(ended == 1 and said.startswith(f"{file}: f: {found}"), f"the object of {code!r}", said)
+            check(ended == 1 and said.startswith(f"{file}: f: {found}"), f"{code!r} is found", said)
         else:
-            check(ended == 0, f"the object of {code!r}", said)
+            check(ended == 0, f"{code!r} is left", said)
 
     archive = folder / "both.a"
-    subprocess.run(["ar", "rcs", archive, folder / "six.o", folder / "quotient.o"], check=True)
+    subprocess.run(["ar", "rcs", archive, folder / "eight.o", folder / "quotient.o"], check=True)
     ended, said = said_of("object", archive, "f")
     check(ended == 1 and said.startswith(f"{archive}: f: div"), "the second object of an archive", said)
 
     for words, why in (
         ((compiled(folder, "nothing", "int a;"),), "no machine code"),
-        ((folder / "six.o", "vdp_point"), "no vdp_point"),
+        ((folder / "eight.o", "vdp_point"), "no vdp_point"),
         ((folder / "none.o",), "No such file"),
-        ((folder / "six.c",), "format not recognized"),
+        ((folder / "eight.c",), "format not recognized"),
     ):
         ended, said = said_of("object", *words)
-        check(ended == 1 and why in said, f"the object of {words[0].name}", said)
+        check(ended == 1 and why in said, f"the object {words[0].name}", said)
 
 
 def main():
+    try_expressions()
     with tempfile.TemporaryDirectory() as made:
         copy, folder = pathlib.Path(made, "sources"), pathlib.Path(made, "objects")
         copy.mkdir()
