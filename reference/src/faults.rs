@@ -259,8 +259,9 @@ pub fn planted(number: u32) -> bool {
     PLANTED.with(|cell| cell.get() == number)
 }
 
-/// The cell and bit that the planted one of these ways gives a column of Text,
-/// counted from the first with a cell. None leaves the right ones.
+/// Where a column of Text lies under the planted one of these mistakes;
+/// `from_first` counts from column 8. None where none is planted, or where it
+/// makes no difference.
 pub fn miscounted(ways: [u32; 3], from_first: usize) -> Option<(usize, usize)> {
     let [is_7_wide, is_from_7, is_too_far] = ways.map(planted);
     if is_7_wide {
