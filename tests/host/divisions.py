@@ -14,6 +14,7 @@ import sys
 # None of these is code.
 ASIDE = re.compile(r"//[^\n]*|^\s*ghost use [^;]*;|b?\"(?:\\.|[^\"\\])*\"|b?'(?:\\.|[^'\\])'", re.MULTILINE)
 CONTRACT = re.compile(r"^\s*(?:requires|ensures)(?:\s+\w+)?\s*\{", re.MULTILINE)
+# What this check cannot read counts as a division.
 RAW_STRING = re.compile(r"\bb?r#*\"")
 # With the divisor, if that is one whole literal: no call, field or further digit follows.
 QUOTIENT = re.compile(r"[/%]=?\s*(?:(0x[0-9A-Fa-f_]+|0b[01_]+|[0-9][0-9_]*)(?:[ui](?:8|16|32|64|128|size))?(?!\w|\s*[.(\[]))?")
@@ -27,16 +28,14 @@ ROUTINE = re.compile(r"__u?(?:div|mod)[a-z]*[0-9]")
 UPPER_HALF = re.compile(r"i?mul[bwlq]?\s+[^,]+|mulx\s.*|v?pmulh.*")
 
 
-def blank(found):
+def blank(text):
     """As many blanks, with the lines kept."""
-    return re.sub(r"[^\n]", " ", found if isinstance(found, str) else found.group())
+    return re.sub(r"[^\n]", " ", text)
 
 
 def code_of(text):
     """The code alone, each piece at its place."""
-    if RAW_STRING.search(text):
-        sys.exit("a raw string, which this check does not read")
-    text = ASIDE.sub(blank, text)
+    text = ASIDE.sub(lambda found: blank(found.group()), text)
     while contract := CONTRACT.search(text):
         end, depth = contract.end(), 1
         while depth:
@@ -54,6 +53,9 @@ def is_power_of_two(literal):
 
 def quotients(text):
     """The number of each line that divides, from 1 up, and whether it is by a power of two."""
+    if raw := RAW_STRING.search(text):
+        yield text.count("\n", 0, raw.start()) + 1, False
+        return
     code = code_of(text)
     for found in QUOTIENT.finditer(code):
         yield code.count("\n", 0, found.start()) + 1, bool(found[1]) and is_power_of_two(found[1])

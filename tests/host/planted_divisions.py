@@ -19,6 +19,7 @@ FOUND = (
     "d / 6", "d % 6", "d / width", "d % (8)", "d /6", "d / 0x30", "d / 0b110", "d / 8_0", "d / 12u8", "d / 8.max(n)", "d / 0",
     "8 / 4 / 3", "d / table[0]", "16 % d", "d / 6 // not by 8", "d / -8", "d / !8", "d\n        / 6", "d /\n        6",
     "d;\n    d /= 6", "d;\n    d %= 6", "if ensures { d / 6 } else { d }", "d / 06",
+    'br"a"',
 )
 # These are not, being by a power of two, or no code.
 LEFT = (
@@ -71,7 +72,7 @@ def line_that_divides(expression):
 
 
 def try_expressions():
-    first = function("\0")[: function("\0").index("\0")].count("\n") + 1
+    first = function("HERE").split("\n").index("    HERE") + 1
     for expression in FOUND + LEFT:
         wrong = [number for number, by_power in quotients(function(expression)) if not by_power]
         wanted = [first + line_that_divides(expression)] if expression in FOUND else []
@@ -112,10 +113,7 @@ def try_sources(copy):
     (copy / "crates/plain/src/lib.rt").write_text(function("d"), encoding="utf-8")
     with (copy / "crates.txt").open("a", encoding="utf-8") as listed:
         listed.write("plain:\n")
-    column = copy / "crates/planes/src/column.rt"
-    column.write_text(column.read_text(encoding="utf-8") + function('br"a"'), encoding="utf-8")
     for words, why in (
-        ((LIBRARY,), "a raw string"),
         (("plain",), "no quotient at all"),
         (("sprite",), "sprite is not in crates.txt"),
         ((), "divisions.py sources ROOT CRATE"),
