@@ -23,7 +23,7 @@ use Rattle.snapshot.specs.Format.{snapshotSize}
 use Rattle.snapshot.specs.Calls.{outputTests}
 use Rattle.birdcleft.specs.Calls.{controlWrite, dataWrite, dataRead, statusRead, endOfDisplay, interruptLine, reset}
 use Rattle.birdcleft.specs.Lines.{drawLine}
-use Rattle.birdcleft.specs.Points.{point}
+use Rattle.birdcleft.specs.Points.{point, origin}
 use Rattle.birdcleft.specs.Frames.{fullDraw, refresh}
 use Rattle.birdcleft.specs.Snapshots.{writeSnapshot}
 use Rattle.birdcleft.specs.Logs.{outcomeSize, runLog}
@@ -118,14 +118,19 @@ module _ (block : List ℕ) (unencoded : NoState block) (seventeen : length bloc
     data-read-refused = order.data-read-order block vram ∙ with-vram [] tt _
 
     -- The tests of a line's number, and of a point's column, come later, and do not matter.
-    pub draw-line-refused : (line : List ℕ) (l : ℕ) → length line ≡ lineSize → drawLine block vram line l .result ≡ refused
-    draw-line-refused line l fits =
-        order.draw-line-order block vram line l
-        ∙ rw (eq-eqb (length vram) vramSize long, eq-eqb (length block) blockSize seventeen, eq-eqb (length line) lineSize fits, no-state block unencoded)
+    pub draw-line-refused : (line codes : List ℕ) (l : ℕ) → length line ≡ lineSize → length codes ≡ lineSize → drawLine block vram line codes l .result ≡ refused
+    draw-line-refused line codes l fits fit =
+        order.draw-line-order block vram line codes l
+        ∙ rw (eq-eqb (length vram) vramSize long, eq-eqb (length block) blockSize seventeen, eq-eqb (length line) lineSize fits, eq-eqb (length codes) lineSize fit, no-state block unencoded)
 
     pub point-refused : (l x : ℕ) → point block vram l x ≡ refused
     point-refused l x =
         order.point-order block vram l x
+        ∙ rw (eq-eqb (length vram) vramSize long, eq-eqb (length block) blockSize seventeen, no-state block unencoded)
+
+    pub origin-refused : (l x : ℕ) → origin block vram l x ≡ refused
+    origin-refused l x =
+        order.origin-order block vram l x
         ∙ rw (eq-eqb (length vram) vramSize long, eq-eqb (length block) blockSize seventeen, no-state block unencoded)
 
     pub write-snapshot-refused : (out : List ℕ) → length out ≡ snapshotSize → writeSnapshot block vram out ≡ refused

@@ -17,7 +17,7 @@ use Rattle.chip.specs.Calls.{powerUpTests, controlWriteTests, dataWriteTests, d
 use Rattle.chip.specs.declared.state.Chip.{Chip}
 use Rattle.chip.specs.declared.refusal.Refusal.the-variants.{VramLength}
 use Rattle.scanline.specs.Calls.{drawLineOwnTests, drawLineTests}
-use Rattle.point.specs.Calls.{pointColour, pointOwnTests, pointTests}
+use Rattle.point.specs.Calls.{pointColour, pointOrigin, pointOwnTests, pointTests}
 use Rattle.frame.specs.Lines.{frameSize, notesSize}
 use Rattle.frame.specs.Due.{dueCount}
 use Rattle.frame.specs.Calls.{drawTests}
@@ -26,7 +26,7 @@ use Rattle.log.specs.Run as direct
 use Rattle.log.specs.declared.running.Ran.{Ran}
 use Rattle.birdcleft.specs.Calls.{blockEntry, vramEntry, resultThrough, powerUp, controlWrite, dataWrite, dataRead, statusRead, endOfDisplay, interruptLine, reset}
 use Rattle.birdcleft.specs.Lines.{drawLine}
-use Rattle.birdcleft.specs.Points.{point}
+use Rattle.birdcleft.specs.Points.{point, origin}
 use Rattle.birdcleft.specs.Frames.{fullDraw, refresh}
 use Rattle.birdcleft.specs.Snapshots.{readSnapshot, writeSnapshot}
 use Rattle.birdcleft.specs.Logs.{outcomeSize, runEntry, runLog}
@@ -68,7 +68,7 @@ module _ (ts : List Test) (other : gives ts VramLength ≡ false) (number : ℕ)
       by true = refl
       by false = rw other
 
--- So it is for each of the fifteen calls, whatever bytes and lists are lent.
+-- So it is for each of the sixteen calls, whatever bytes and lists are lent.
 module _ (block : List ℕ) where
   abbrev pub blockTest : Test
   blockTest = sliceTest blockSize block
@@ -109,13 +109,17 @@ module _ (block : List ℕ) where
     unfolding resultThrough
     data-read-order = vram-in-order (stateTest held ∷ []) refl (held .buffer) block vram
 
-    pub draw-line-order : (line : List ℕ) (l : ℕ) → drawLine block vram line l .result ≡ resultAfter (blockTest ∷ drawLineTests held vram line l) 0
+    pub draw-line-order : (line codes : List ℕ) (l : ℕ) → drawLine block vram line codes l .result ≡ resultAfter (blockTest ∷ drawLineTests held vram line codes l) 0
     unfolding resultThrough
-    draw-line-order line l = vram-in-order (stateTest held ∷ drawLineOwnTests line l) refl 0 block vram
+    draw-line-order line codes l = vram-in-order (stateTest held ∷ drawLineOwnTests line codes l) refl 0 block vram
 
     pub point-order : (l x : ℕ) → point block vram l x ≡ resultAfter (blockTest ∷ pointTests held vram l x) (pointColour (held .registers) vram l x)
     unfolding resultThrough
     point-order l x = vram-in-order (stateTest held ∷ pointOwnTests l x) refl (pointColour (held .registers) vram l x) block vram
+
+    pub origin-order : (l x : ℕ) → origin block vram l x ≡ resultAfter (blockTest ∷ pointTests held vram l x) (pointOrigin (held .registers) vram l x)
+    unfolding resultThrough
+    origin-order l x = vram-in-order (stateTest held ∷ pointOwnTests l x) refl (pointOrigin (held .registers) vram l x) block vram
 
     pub read-snapshot-order : (s : List ℕ) → readSnapshot block vram s .result ≡ resultAfter (blockTest ∷ readTests vram s) 0
     unfolding resultThrough

@@ -1,7 +1,7 @@
 // The calls from C. Each on a state tests VRAM's length, where VRAM is lent, and the block's, without which the block cannot be
 // decoded; then it loads the state and makes the direct call. A call that is lent the block to write stores the next state if
-// the call was accepted; the three that are lent it to read (`vdp_interrupt_line`, `vdp_point`, `vdp_write_snapshot`) store nothing
-// there.
+// the call was accepted; the four that are lent it to read (`vdp_interrupt_line`, `vdp_point`, `vdp_origin`, `vdp_write_snapshot`)
+// store nothing there.
 ghost use mathlib.Core.Path.{_≡_};
 ghost use Prim.Native.Nat.{_*_};
 ghost use lib.ListN.{length};

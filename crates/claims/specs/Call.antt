@@ -8,9 +8,9 @@ use Rattle.chip.specs.Map.{mapSize}
 use Rattle.chip.specs.Layout.{blockSize}
 use Rattle.frame.specs.Lines.{frameSize, notesSize}
 
--- A call with what is its own: bytes written, the slice for a line and the line's number, a point's line and column, a
--- snapshot, a log. (For a run of a log: the slice for lines, the log, and the slice for the outcome, which is lent from C
--- alone.)
+-- A call with what is its own: bytes written, the slices for a line and its origins and the line's number, a point's line and
+-- column, a snapshot, a log. (For a run of a log: the slice for lines, the log, and the slice for the outcome, which is lent from C
+-- alone. A point answers two numbers, its colour and its origin: from C each has a call, and so there are two here.)
 pub data Op : Type 0 where
   powerUp : Op
   controlWrite : ℕ → Op
@@ -20,8 +20,9 @@ pub data Op : Type 0 where
   endOfDisplay : Op
   interruptLine : Op
   reset : Op
-  drawLine : List ℕ → ℕ → Op
+  drawLine : List ℕ → List ℕ → ℕ → Op
   point : ℕ → ℕ → Op
+  origin : ℕ → ℕ → Op
   fullDraw : Op
   refresh : Op
   readSnapshot : List ℕ → Op

@@ -157,7 +157,7 @@ spriteState s =
     record { registers = spriteRegisters 0; address = 0x1234; buffer = 0x99; waiting = Nothing; status = s; redraw = false; lost = lostBefore }
 
 abbrev pub after100 : ℕ → Chip
-after100 s = drawLine (spriteState s) withFive (replicate 256 0) 100 .chip
+after100 s = drawLine (spriteState s) withFive (replicate 256 0) (replicate 256 0) 100 .chip
 
 -- The number is taken only while 5S and F are clear: status 00 becomes 4C, 80 stays 80, 45 stays 45. Nothing else of the state
 -- changes.

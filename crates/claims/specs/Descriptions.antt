@@ -113,20 +113,20 @@ described Op.reset =
       directly = λ b. answers b (ofAnswer (chip.reset (b .chip)));
       throughC = λ block b. answers b (ofFromC (c-ports.reset block));
     }
-described (Op.drawLine line l) =
+described (Op.drawLine line codes l) =
     record {
       takes = vramAlone;
       testsState = true;
-      brings = record { tests = λ c. scanline.drawLineOwnTests line l; slices = line ∷ []; AreBytes = Unit {0} };
+      brings = record { tests = λ c. scanline.drawLineOwnTests line codes l; slices = line ∷ codes ∷ []; AreBytes = Unit {0} };
       fromC = nothingMore;
       numbers = 1;
       establishes = false;
       directly = λ b.
-          fills b (ofAnswer (scanline.drawLine (b .chip) (b .vram) line l))
-          (scanline.drawLineLine (b .chip) (b .vram) line l ∷ []);
+          fills b (ofAnswer (scanline.drawLine (b .chip) (b .vram) line codes l))
+          (scanline.drawLineLine (b .chip) (b .vram) line codes l ∷ scanline.drawLineOrigins (b .chip) (b .vram) line codes l ∷ []);
       throughC = λ block b.
-          fills b (ofFromC (c-lines.drawLine block (b .vram) line l))
-          (c-lines.drawLineLine block (b .vram) line l ∷ []);
+          fills b (ofFromC (c-lines.drawLine block (b .vram) line codes l))
+          (c-lines.drawLineLine block (b .vram) line codes l ∷ c-lines.drawLineOrigins block (b .vram) line codes l ∷ []);
     }
 described (Op.point l x) =
     record {
@@ -136,8 +136,20 @@ described (Op.point l x) =
       fromC = record { tests = []; NumbersFit = λ vram. Bytes vram };
       numbers = 1;
       establishes = false;
-      directly = λ b. answers b (ofAnswer (points.point (b .chip) (b .vram) l x));
+      directly = λ b. answers b (ofAnswer (points.colourAnswer (points.point (b .chip) (b .vram) l x)));
       throughC = λ block b. answers b (ofResult block (c-points.point block (b .vram) l x));
+    }
+-- The same call, for the other of its two numbers.
+described (Op.origin l x) =
+    record {
+      takes = vramAlone;
+      testsState = true;
+      brings = record { tests = λ c. points.pointOwnTests l x; slices = []; AreBytes = Unit {0} };
+      fromC = nothingMore;
+      numbers = 1;
+      establishes = false;
+      directly = λ b. answers b (ofAnswer (points.originAnswer (points.point (b .chip) (b .vram) l x)));
+      throughC = λ block b. answers b (ofResult block (c-points.origin block (b .vram) l x));
     }
 described Op.fullDraw =
     record {

@@ -13,7 +13,7 @@ use Rattle.chip.specs.declared.refusal.Refusal.the-variants.{Accepted}
 use Rattle.chip.proofs.Laws.Refusals.{the-new, all-accepted}
 use Rattle.scanline.specs.Notes.{statusThrough}
 use Rattle.scanline.specs.Calls.{colours, drawLine}
-use Rattle.scanline.specs.LineDraws.{stateAfter, drawnLine}
+use Rattle.scanline.specs.LineDraws.{Slices, stateAfter, drawnLine}
 use Rattle.scanline.proofs.Laws.LineDraws.{noted, state-after, each-accepted, each-drawn}
 use Rattle.frame.specs.Lines.{endToEnd}
 use Rattle.frame.specs.Draw.{frameOf, notesOf, drawnState}
@@ -27,16 +27,17 @@ full-accepted c vram map frame notes ok v m f n =
 
 -- Take any well-formed state, any 16,384 bytes of VRAM, and slices for map, frame and notes of the right lengths, whatever
 -- they hold. Beside a full draw, draw lines 0 to 191 in order by the call that draws a line, each from the state that the
--- draw before handed back, each into any slice of 256 bytes: one slice lent again and again, parts of a frame, or others.
--- Then the full draw is accepted, and so is every line draw; the frame is what the line draws left in their slices, end to
--- end; and the state is the one that the last line draw handed back, with the redraw mark cleared. Its status is
+-- draw before handed back, each into any two slices of 256 bytes, for its colours and its origins: the same lent again and again,
+-- parts of a frame, or others.
+-- Then the full draw is accepted, and so is every line draw; the frame is what the line draws left in their slices for
+-- colours, end to end; and the state is the one that the last line draw handed back, with the redraw mark cleared. Its status is
 -- the one before, updated by the notes that the full draw wrote, in order.
 pub full-draw-is-line-draws : (c : Chip) → wellFormed c ≡ true
     → (vram : List ℕ) → length vram ≡ 16384
     → (map frame notes : List ℕ) → length map ≡ 2048 → length frame ≡ 49152 → length notes ≡ 192
-    → (slices : ℕ → List ℕ) → ((l : ℕ) → length (slices l) ≡ 256)
+    → (slices : Slices) → ((l : ℕ) → (length (slices .line l) ≡ 256) × (length (slices .codes l) ≡ 256))
     → (fullDraw c vram map frame notes .refusal ≡ Accepted)
-    × ((l : ℕ) → l < 192 → drawLine (stateAfter l c vram slices) vram (slices l) l .refusal ≡ Accepted)
+    × ((l : ℕ) → l < 192 → drawLine (stateAfter l c vram slices) vram (slices .line l) (slices .codes l) l .refusal ≡ Accepted)
     × (fullDrawFrame c vram map frame notes ≡ endToEnd 192 (drawnLine c vram slices))
     × (fullDraw c vram map frame notes .chip ≡ withRedraw false (stateAfter 192 c vram slices))
     × (stateAfter 192 c vram slices .status ≡ statusThrough (c .status) (fullDrawNotes c vram map frame notes))

@@ -1,11 +1,12 @@
 -- The single call that a record names: its answer, accepted or refused, and what it leaves, by the definitions that the
--- contracts of the calls cite.
+-- contracts of the calls cite. A run has no slice for origins, and draws a line by its colours alone: that is the single call but for
+-- the origins.
 use Prim.Native.Nat.{ℕ}
 use mathlib.Core.List.{List}
 use Rattle.chip.specs.Calls.{controlWrite, dataWrite, dataWriteVram, dataWriteMap, dataRead, statusRead, endOfDisplay, reset}
 use Rattle.chip.specs.declared.state.Chip.{Chip}
 use Rattle.chip.specs.declared.refusal.Answer.{Answer}
-use Rattle.scanline.specs.Calls.{drawLine, drawLineLine}
+use Rattle.scanline.specs.Colours.{drawColours, drawColoursLine}
 use Rattle.log.specs.Records.{operationOf}
 use Rattle.log.specs.declared.records.Operation.{Operation}
 use Rattle.log.specs.declared.records.Operation.the-variants.{DataWrite, ControlWrite, DataRead, StatusRead, DrawLine, EndOfDisplay, Reset}
@@ -26,7 +27,7 @@ answerBy DataWrite v t = dataWrite (t .chip) (t .vram) (t .map) v
 answerBy ControlWrite v t = controlWrite (t .chip) (t .vram) v
 answerBy DataRead v t = dataRead (t .chip) (t .vram)
 answerBy StatusRead v t = statusRead (t .chip)
-answerBy DrawLine v t = drawLine (t .chip) (t .vram) (t .line) v
+answerBy DrawLine v t = drawColours (t .chip) (t .vram) (t .line) v
 answerBy EndOfDisplay v t = endOfDisplay (t .chip)
 answerBy Reset v t = reset (t .chip)
 
@@ -54,7 +55,7 @@ lineBy DataWrite v t = t .line
 lineBy ControlWrite v t = t .line
 lineBy DataRead v t = t .line
 lineBy StatusRead v t = t .line
-lineBy DrawLine v t = drawLineLine (t .chip) (t .vram) (t .line) v
+lineBy DrawLine v t = drawColoursLine (t .chip) (t .vram) (t .line) v
 lineBy EndOfDisplay v t = t .line
 lineBy Reset v t = t .line
 

@@ -23,7 +23,7 @@ pub fn make_call(
         Operation::ControlWrite => chip.control_write(vram, value),
         Operation::DataRead => chip.data_read(vram),
         Operation::StatusRead => chip.status_read(),
-        Operation::DrawLine => scanline::draw_line(chip, vram, line, value as u32),
+        Operation::DrawLine => scanline::draw_colours(chip, vram, line, value as u32),
         Operation::EndOfDisplay => chip.end_of_display(),
         Operation::Reset => chip.reset(),
     }

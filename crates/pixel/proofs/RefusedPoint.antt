@@ -1,7 +1,8 @@
 -- Which files and points are refused, and with which number.
 --
 -- Rightly called, the program writes what one list of tests decides, in the one order of tests: those of the snapshot (5, 6, 7,
--- 3) and of the two numbers (4, 13). Where none fails it writes the point's colour in the state and VRAM that the snapshot holds.
+-- 3) and of the two numbers (4, 13). Where none fails it writes the point's colour, and where that comes from, in the state and VRAM
+-- that the snapshot holds.
 use Prim.Native.Nat.{ℕ}
 use mathlib.Core.Path.{_≡_, refl, sym, ap, ap₂, _∙_}
 use mathlib.Core.Bool.{Bool, true, false}
@@ -16,14 +17,14 @@ use Rattle.chip.specs.declared.refusal.Refusal.{Refusal}
 use Rattle.chip.specs.declared.refusal.Refusal.the-variants.{Accepted, SnapshotLength, Trailer, Checksum, IllFormed, LineNumber, ColumnNumber}
 use Rattle.chip.specs.declared.state.Chip.{Chip}
 use Rattle.chip.proofs.Laws.Refusals.{differ, passed, is-accepted, the-new}
-use Rattle.point.specs.Calls.{pointColour, pointOwnTests, pointRefusal}
+use Rattle.point.specs.Calls.{pointOwnTests, pointRefusal}
 use Rattle.snapshot.specs.Tests.{vramBytes, heldState, pointsBack, sumRight, sizeTest, trailerTest, sumTest, contentsTest}
 use Rattle.snapshot.specs.Calls.{fileTests, readRefusal}
 use Rattle.snapshot.proofs.Laws.Parts.{length-vram}
 use Rattle.snapshot.proofs.Laws.Refusals.{Readable, accepted-readable}
 use Rattle.text.specs.Lines.{refusedText}
 use Rattle.pixel.specs.Arguments.{numberIn, rightlyCalled}
-use Rattle.pixel.specs.Output.{colourText, pointText, pixelOutput}
+use Rattle.pixel.specs.Output.{shownText, pointText, pixelOutput}
 use Rattle.pixel.proofs.Laws.Output.{refused-line, file-refused, point-written}
 
 -- the tests of a file, and then those of the numbers, by whether each passes
@@ -59,9 +60,9 @@ module _ (argc : ℕ) (first second file : List ℕ) (right : rightlyCalled argc
   of-reading : readRefusal clearedVram file ≡ refusalOf (fileTests file)
   of-reading = passed (vramTest clearedVram) (fileTests file) (eq-eqb (length clearedVram) 16384 (length-replicate {A = ℕ} 16384 0))
 
-  -- the line of a refusal, or that of the colour
+  -- the line of a refusal, or those of the colour and its origin
   abbrev pub shown : Refusal → List ℕ
-  shown r = ifAccepted r (colourText (pointColour (heldState file .registers) (vramBytes file) l x)) (refusedText (numberOf r))
+  shown r = ifAccepted r (shownText (heldState file .registers) (vramBytes file) l x) (refusedText (numberOf r))
 
   -- where no test of the file fails, those of the numbers are left, in the point's call too
   module _ (ok : readRefusal clearedVram file ≡ Accepted) where
@@ -97,5 +98,5 @@ module _ (argc : ℕ) (first second file : List ℕ) (right : rightlyCalled argc
       by : (b : Bool) → isAccepted (refusalOf (fileTests file)) ≡ b → pixelOutput argc first second file ≡ shown given
       by false n =
           let one = file-first (eqb (length file) 16406) (pointsBack file) (sumRight file) (wellFormed (heldState file)) (leb l 191) (leb x 255) n in
-          sym (file-refused argc first second file right of-reading n) ∙ refused-line (colourText (pointColour (heldState file .registers) (vramBytes file) l x)) one n
+          sym (file-refused argc first second file right of-reading n) ∙ refused-line (shownText (heldState file .registers) (vramBytes file) l x) one n
       by true ok = by-point (of-reading ∙ is-accepted (refusalOf (fileTests file)) ok)

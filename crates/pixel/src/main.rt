@@ -1,6 +1,7 @@
-// Shows the colour of one point of the snapshot on standard input.
+// Shows the colour of one point of the snapshot on standard input, and where it comes from.
 mod arguments;
 mod names;
+mod origins;
 mod output;
 
 use arguments::rightly_called;
@@ -18,7 +19,7 @@ fn main() {
     if rightly_called(argc, &first[..first_count], &second[..second_count]) {
         count = input::read(&mut file);
     }
-    let mut out = [0u8; 64];
+    let mut out = [0u8; 128];
     let written = pixel(
         argc,
         &first[..first_count],

@@ -7,6 +7,7 @@ ghost use Rattle.pixel.specs.Output.{colourText, pointText, pixelOutput}
 use crate::arguments::number_in;
 use crate::arguments::rightly_called;
 use crate::names::put_name;
+use crate::origins::put_origin;
 use chip::Chip;
 use chip::put;
 use point::point;
@@ -15,7 +16,7 @@ use text::put_refusal;
 
 // A colour's number and name.
 fn put_colour(out: &mut [u8], colour: u8) -> usize
-    requires { ⌜ 64 ≤ length (now out) ⌝ }
+    requires { ⌜ 128 ≤ length (now out) ⌝ }
     ensures { λ r. ⌜ r ≡ length (colourText colour) ⌝ }
     ensures { λ _. ⌜ now (out .exit) ≡ putAt 0 (colourText colour) (now (out .entry)) ⌝ }
 {
@@ -27,9 +28,9 @@ fn put_colour(out: &mut [u8], colour: u8) -> usize
     put(out, c, &newline)
 }
 
-// The colour at a line and a column, or the refusal of the point.
+// The colour at a line and a column and its origin, or the refusal of the point.
 fn put_point(out: &mut [u8], chip: Chip, vram: &[u8], line: u32, column: u32) -> usize
-    requires { ⌜ 64 ≤ length (now out) ⌝ }
+    requires { ⌜ 128 ≤ length (now out) ⌝ }
     ensures { λ r. ⌜ r ≡ length (pointText line column chip (now (vram .entry))) ⌝ }
     ensures { λ _. ⌜ now (out .exit) ≡ putAt 0 (pointText line column chip (now (vram .entry))) (now (out .entry)) ⌝ }
 {
@@ -38,11 +39,21 @@ fn put_point(out: &mut [u8], chip: Chip, vram: &[u8], line: u32, column: u32) ->
     if refusal.number() != 0 {
         return put_refusal(out, refusal);
     }
-    put_colour(out, answer.value)
+    let registers = chip.registers;
+    let end = put_colour(out, answer.colour);
+    put_origin(
+        out,
+        end,
+        registers,
+        vram,
+        line as usize,
+        column as usize,
+        answer.origin,
+    )
 }
 
 // The output's length is given by type: no program can lend one that is too short.
-pub fn pixel(argc: usize, first: &[u8], second: &[u8], file: &[u8], out: &mut [u8; 64]) -> usize
+pub fn pixel(argc: usize, first: &[u8], second: &[u8], file: &[u8], out: &mut [u8; 128]) -> usize
     ensures { λ n. ⌜ n ≡ length (pixelOutput argc (now (first .entry)) (now (second .entry)) (now (file .entry))) ⌝ }
     ensures { λ _. ⌜ now (out .exit) ≡ putAt 0 (pixelOutput argc (now (first .entry)) (now (second .entry)) (now (file .entry))) (now (out .entry)) ⌝ }
 {

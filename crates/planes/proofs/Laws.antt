@@ -6,3 +6,4 @@ pub mod Column
 pub mod Small
 pub mod Painted
 pub mod Pixel
+pub mod Origin

@@ -1,4 +1,4 @@
--- What settles a pixel.
+-- What settles a pixel's colour.
 use Prim.Native.Nat.{ℕ, _%_}
 use mathlib.Core.Bool.{cond, not}
 use mathlib.Core.List.{List, [], _∷_}
@@ -20,6 +20,6 @@ firstNonZero (c ∷ l) behind = over c (firstNonZero l behind)
 abbrev pub behindPlanes : List ℕ → ℕ
 behindPlanes r = over (register 7 r % 16) (boolByte (not (externalVideo r)))
 
--- A pixel: the first non-zero of the sprites' colours, lowest number first, the pattern plane's, and what stands behind.
+-- A pixel's colour: the first non-zero of the sprites' colours, lowest number first, the pattern plane's, and what stands behind.
 abbrev pub pixelOf : List ℕ → List ℕ → ℕ → ℕ
 pixelOf r sprites plane = firstNonZero sprites (over plane (behindPlanes r))

@@ -8,20 +8,22 @@ ghost use Rattle.chip.specs.State.{masked};
 ghost use Rattle.chip.specs.declared.mode.Mode.the-variants.{Text};
 ghost use Rattle.fetches.specs.Fetch.{value};
 ghost use Rattle.planes.specs.Plane as plane;
-ghost use Rattle.planes.specs.Pixel.{pixelOf};
+ghost use Rattle.planes.specs.Origin.{settle};
 use crate::address::cells_in;
 use crate::cell::Cell;
 use crate::cell::cell_of;
+use crate::origin::Origin;
+use crate::origin::Pixel;
+use crate::origin::in_front;
+use crate::origin::pixel_behind;
 use crate::paint::choose;
-use crate::pixel::behind_planes;
-use crate::pixel::over;
 use crate::plane::cell_width;
 use crate::plane::margin_of;
 use chip::Mode;
 use chip::bit;
 
 // Whether a cell holds column x.
-fn in_cells(mode: Mode, x: usize) -> bool
+pub fn in_cells(mode: Mode, x: usize) -> bool
     ensures { λ b. ⌜ b ≡ plane.inCells mode x ⌝ }
 {
     let first = margin_of(mode);
@@ -30,9 +32,9 @@ fn in_cells(mode: Mode, x: usize) -> bool
 }
 
 // Which cell of a line, and which pixel of it, from the left.
-struct CellPixel {
-    cell: usize,
-    pixel: usize,
+pub struct CellPixel {
+    pub cell: usize,
+    pub pixel: usize,
 }
 
 // Where column x of Text lies, which a cell holds: counted from column 8 on, by 32 cells of six columns at once, then by 16, 8,
@@ -59,7 +61,7 @@ fn text_place(x: usize) -> CellPixel
 }
 
 // Where column x lies, which a cell holds. Cells of eight columns begin at column 0.
-fn place_of(mode: Mode, x: usize) -> CellPixel
+pub fn place_of(mode: Mode, x: usize) -> CellPixel
     requires { ⌜ plane.inCells mode x ≡ true ⌝ }
     ensures { λ p. ⌜ p ≡ record { cell = plane.cellAt mode x; pixel = plane.pixelInCell mode x } ⌝ }
 {
@@ -82,16 +84,16 @@ fn pick(cell: Cell, k: usize) -> u8
     choose(bit(cell.pattern, (7 - k) as u8), one, zero)
 }
 
-// The plane's colour at column x of line l, over what stands behind it.
-pub fn plane_at(mode: Mode, r: [u8; 8], vram: &[u8], l: usize, x: usize) -> u8
+// The pixel at column x of line l, with the plane over what stands behind it.
+pub fn plane_at(mode: Mode, r: [u8; 8], vram: &[u8], l: usize, x: usize) -> Pixel
     requires { ⌜ (masked r ≡ true) × (length (now vram) ≡ 16384) × (l < 192) ⌝ }
-    ensures { λ c. ⌜ c ≡ pixelOf r [] (plane.cellColour mode (value (plane.cellHolding mode r l x) (now (vram .entry))) x) ⌝ }
+    ensures { λ p. ⌜ p ≡ settle r [] (plane.cellColour mode (value (plane.cellHolding mode r l x) (now (vram .entry))) x) ⌝ }
 {
-    let behind = behind_planes(r);
+    let behind = pixel_behind(r);
     if !in_cells(mode, x) {
         return behind;
     }
     let place = place_of(mode, x);
     let cell = cell_of(mode, r, vram, l, place.cell);
-    over(pick(cell, place.pixel), behind)
+    in_front(pick(cell, place.pixel), Origin::Pattern, behind)
 }

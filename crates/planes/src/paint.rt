@@ -27,16 +27,28 @@ fn paint_cell(line: &mut [u8], at: usize, width: usize, pattern: u8, one: u8, ze
 }
 
 // A cell of eight pixels, and one of six: with the count known no loop is left.
-pub fn paint_eight(line: &mut [u8], at: usize, pattern: u8, one: u8, zero: u8)
+fn paint_eight(line: &mut [u8], at: usize, pattern: u8, one: u8, zero: u8)
     requires { ⌜ at + 8 ≤ length (now line) ⌝ }
     ensures { λ _. ⌜ Painted (now (line .exit)) (now (line .entry)) at 8 (λ k. cond (bits.bit (7 - k) pattern) one zero) ⌝ }
 {
     paint_cell(line, at, 8, pattern, one, zero)
 }
 
-pub fn paint_six(line: &mut [u8], at: usize, pattern: u8, one: u8, zero: u8)
+fn paint_six(line: &mut [u8], at: usize, pattern: u8, one: u8, zero: u8)
     requires { ⌜ at + 6 ≤ length (now line) ⌝ }
     ensures { λ _. ⌜ Painted (now (line .exit)) (now (line .entry)) at 6 (λ k. cond (bits.bit (7 - k) pattern) one zero) ⌝ }
 {
     paint_cell(line, at, 6, pattern, one, zero)
+}
+
+// A cell of either width.
+pub fn paint_pattern(line: &mut [u8], at: usize, width: usize, pattern: u8, one: u8, zero: u8)
+    requires { ⌜ (at + width ≤ length (now line)) × ((width ≡ 8 → ⊥) → width ≡ 6) ⌝ }
+    ensures { λ _. ⌜ Painted (now (line .exit)) (now (line .entry)) at width (λ k. cond (bits.bit (7 - k) pattern) one zero) ⌝ }
+{
+    if width == 8 {
+        paint_eight(line, at, pattern, one, zero);
+    } else {
+        paint_six(line, at, pattern, one, zero);
+    }
 }

@@ -10,12 +10,17 @@ ghost use Rattle.fetches.specs.Fetch.{value};
 ghost use Rattle.planes.specs.Cells.{cellWidth, margin, planeOf};
 ghost use Rattle.planes.specs.Plane.{pick, planeColour};
 ghost use Rattle.planes.specs.Pixel as pixel;
+ghost use Rattle.planes.specs.Origin.{originCode, inFront, settle};
+ghost use Rattle.planes.specs.declared.origin.Origin.the-variants.{Pattern};
 ghost use Rattle.planes.specs.Painted.{Painted};
 use crate::address::cells_in;
 use crate::cell::Cell;
 use crate::cell::cell_of;
-use crate::paint::paint_eight;
-use crate::paint::paint_six;
+use crate::origin::Origin;
+use crate::origin::Pixel;
+use crate::origin::in_front;
+use crate::origin::pixel_behind;
+use crate::paint::paint_pattern;
 use crate::pixel::behind_planes;
 use crate::pixel::over;
 use chip::Mode;
@@ -52,11 +57,26 @@ fn show_cell(line: &mut [u8], at: usize, width: usize, cell: Cell, behind: u8)
 {
     let one = over(cell.colours / 16, behind);
     let zero = over(cell.colours % 16, behind);
-    if width == 8 {
-        paint_eight(line, at, cell.pattern, one, zero);
-    } else {
-        paint_six(line, at, cell.pattern, one, zero);
-    }
+    paint_pattern(line, at, width, cell.pattern, one, zero);
+}
+
+// The code of the plane's origin where it has this colour, over what stands behind it.
+fn plane_code(colour: u8, behind: Pixel) -> u8
+    ensures { λ c. ⌜ c ≡ originCode (inFront colour Pattern behind .origin) ⌝ }
+{
+    let pixel = in_front(colour, Origin::Pattern, behind);
+    let origin = pixel.origin;
+    origin.code()
+}
+
+// The origins of a cell's pixels, as codes.
+fn show_origins(origins: &mut [u8], at: usize, width: usize, cell: Cell, behind: Pixel)
+    requires { ⌜ (at + width ≤ length (now origins)) × ((width ≡ 8 → ⊥) → width ≡ 6) ⌝ }
+    ensures { λ _. ⌜ Painted (now (origins .exit)) (now (origins .entry)) at width (λ k. originCode (inFront (pick cell k) Pattern behind .origin)) ⌝ }
+{
+    let one = plane_code(cell.colours / 16, behind);
+    let zero = plane_code(cell.colours % 16, behind);
+    paint_pattern(origins, at, width, cell.pattern, one, zero);
 }
 
 // The pattern plane of line l over the backdrop, into a lent line. It counts through the cells.
@@ -73,6 +93,37 @@ pub fn draw_plane(mode: Mode, r: [u8; 8], vram: &[u8], l: usize, line: &mut [u8]
     while i < cells {
         let cell = cell_of(mode, r, vram, l, i);
         show_cell(line, at, width, cell, behind);
+        at += width;
+        i += 1;
+    }
+}
+
+// The same, and into a second line the code of each pixel's origin. Each cell is read once for both.
+pub fn draw_plane_with_origins(
+    mode: Mode,
+    r: [u8; 8],
+    vram: &[u8],
+    l: usize,
+    line: &mut [u8],
+    origins: &mut [u8],
+)
+    requires { ⌜ (masked r ≡ true) × (length (now vram) ≡ 16384) × (l < 192) × (length (now line) ≡ 256) × (length (now origins) ≡ 256) ⌝ }
+    ensures { λ _. ⌜ now (line .exit) ≡ tabulate 256 (λ x. pixel.pixelOf r [] (planeColour mode (value (planeOf mode r l) (now (vram .entry))) x)) ⌝ }
+    ensures { λ _. ⌜ now (origins .exit) ≡ tabulate 256 (λ x. originCode (settle r [] (planeColour mode (value (planeOf mode r l) (now (vram .entry))) x) .origin)) ⌝ }
+{
+    let colour = behind_planes(r);
+    fill(line, colour);
+    let behind = pixel_behind(r);
+    let origin = behind.origin;
+    fill(origins, origin.code());
+    let count = cells_in(mode);
+    let width = cell_width(mode);
+    let mut at = margin_of(mode);
+    let mut i = 0;
+    while i < count {
+        let cell = cell_of(mode, r, vram, l, i);
+        show_cell(line, at, width, cell, colour);
+        show_origins(origins, at, width, cell, behind);
         at += width;
         i += 1;
     }

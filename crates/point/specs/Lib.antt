@@ -1,3 +1,3 @@
--- The colour of one point: what it reads, and the call that answers it.
+-- The colour of one point and its origin: what the point reads, and the call that answers both.
 pub mod Point
 pub mod Calls

@@ -1,11 +1,12 @@
--- What a point reads, and the colour that it has. It reads by the registers, the line and the column alone.
+-- What a point reads, the colour that it has, and where that comes from. It reads by the registers, the line and the column alone.
 use Prim.Native.Nat.{ℕ}
 use mathlib.Core.List.{List}
 use Rattle.chip.specs.Modes.{modeOf}
 use Rattle.fetches.specs.Fetch.{Fetch, answer, followed}
 use Rattle.planes.specs.Plane.{cellColour, cellHolding}
 use Rattle.planes.specs.declared.cell.Cell.{Cell}
-use Rattle.scanline.specs.Line.{spritesOf, settled}
+use Rattle.planes.specs.declared.origin.Pixel.{Pixel}
+use Rattle.scanline.specs.Line.{spritesOf, settled, settledPixel}
 use Rattle.sprites.specs.Scan.{Found}
 
 -- What was read for a point: the cell that holds its column, if one does, and what the scan of its line found.
@@ -23,3 +24,7 @@ pointOf r l x =
 -- Its colour is settled as that of a drawn line's pixel is.
 unfoldable pub colourOf : List ℕ → Spot → ℕ → ℕ
 colourOf r spot x = settled r (spot .found) (cellColour (modeOf r) (spot .cell) x) x
+
+-- So is its origin with the colour.
+unfoldable pub spotPixel : List ℕ → Spot → ℕ → Pixel
+spotPixel r spot x = settledPixel r (spot .found) (cellColour (modeOf r) (spot .cell) x) x

@@ -1,5 +1,6 @@
-// The colour of one point, without drawing its line.
+// The colour of one point and its origin, without drawing its line.
 mod call;
-mod colour;
+mod pixel;
 
+pub use call::PointAnswer;
 pub use call::point;

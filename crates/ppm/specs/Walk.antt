@@ -7,7 +7,8 @@ use lib.ListN.{length, replicate}
 use Rattle.chip.specs.State.{powerUpState}
 use Rattle.chip.specs.Refusals.{numberOf, ifAccepted}
 use Rattle.chip.specs.declared.refusal.Refusal.{Refusal}
-use Rattle.scanline.specs.Calls.{colours, drawLineRefusal}
+use Rattle.scanline.specs.Calls.{colours}
+use Rattle.scanline.specs.Colours.{drawColoursRefusal}
 use Rattle.frame.specs.Lines.{lineCount}
 use Rattle.snapshot.specs.Calls.{readSnapshot}
 use Rattle.text.specs.Lines.{refusedText}
@@ -41,7 +42,7 @@ going w n = record { next = n; chip = w .chip }
 -- The pixels of line l, of which the last is line 191. Where the line cannot be drawn, nothing is written.
 abbrev pub lineStep : List ℕ → Walk → ℕ → Step Walk
 lineStep vram w l =
-    ifAccepted (drawLineRefusal (w .chip) vram (replicate 256 0) l)
+    ifAccepted (drawColoursRefusal (w .chip) vram (replicate 256 0) l)
     (record { bytes = painted (colours (w .chip .registers) vram l); walk = going w (Line (l + 1)); last = eqb l 191 })
     (writesNothing w)
 

@@ -68,7 +68,7 @@ fn put_line(walk: Walk, l: u8, vram: &[u8; 16384], out: &mut [u8]) -> Piece
 {
     let chip = walk.chip;
     let mut line = [0u8; 256];
-    let answer = scanline::draw_line(chip, vram, &mut line, l as u32);
+    let answer = scanline::draw_colours(chip, vram, &mut line, l as u32);
     let refusal = answer.refusal;
     if refusal.number() != 0 {
         return nothing(walk);

@@ -1,2 +1,4 @@
 pub mod Laws
 pub mod Inside
+pub mod SameColours
+pub mod ColoursAlone

@@ -10,9 +10,11 @@ use Rattle.fetches.specs.Fetch.{Fetch, answer, followed}
 use Rattle.planes.specs.Cells.{planeOf}
 use Rattle.planes.specs.Plane.{planeColour}
 use Rattle.planes.specs.Pixel.{pixelOf}
+use Rattle.planes.specs.Origin.{originCode, settle}
 use Rattle.planes.specs.declared.cell.Cell.{Cell}
+use Rattle.planes.specs.declared.origin.Pixel.{Pixel}
 use Rattle.sprites.specs.Scan.{Found, scanOf}
-use Rattle.sprites.specs.Pixels.{visible, spriteColours}
+use Rattle.sprites.specs.Pixels.{visible, spriteColours, numberedColours}
 use Rattle.sprites.specs.declared.scan.Ended.the-variants.{All}
 
 -- What was read for a line: its cells, and what the scan found.
@@ -51,3 +53,15 @@ colourAt r row x = settled r (row .found) (planeColour (modeOf r) (row .cells) x
 -- The 256 colours of a row.
 abbrev pub coloursOf : List ℕ → Row → List ℕ
 coloursOf r row = tabulate 256 (colourAt r row)
+
+-- The pixel at column x, with its origin, settled by the same with the sprites' numbers. Its colour is `settled`
+-- (proofs/SameColours.antt).
+abbrev pub settledPixel : List ℕ → Found → ℕ → ℕ → Pixel
+settledPixel r f plane x = settle r (numberedColours r (f .sprites) (visible x)) plane
+
+unfoldable pub pixelAt : List ℕ → Row → ℕ → Pixel
+pixelAt r row x = settledPixel r (row .found) (planeColour (modeOf r) (row .cells) x) x
+
+-- The codes of a row's 256 origins.
+abbrev pub originsOf : List ℕ → Row → List ℕ
+originsOf r row = tabulate 256 (λ x. originCode (pixelAt r row x .origin))

@@ -1,6 +1,6 @@
 // Drawing a line and printing it.
 ghost use mathlib.Core.Path.{_≡_};
-ghost use Rattle.scanline.specs.Calls.{drawLine, drawLineLine};
+ghost use Rattle.scanline.specs.Colours.{drawColours, drawColoursLine};
 ghost use Rattle.scenes.specs.Shown.{stateOf};
 use chip::Chip;
 use chip::Waiting;
@@ -50,10 +50,10 @@ fn print_runs(line: &[u8]) {
 
 // Draws a line into a lent slice, and answers the status after it.
 fn draw(r: [u8; 8], status: u8, vram: &[u8], line: &mut [u8], number: u32) -> u8
-    ensures { λ s. ⌜ s ≡ drawLine (stateOf r status) (now (vram .entry)) (now (line .entry)) number .chip .status ⌝ }
-    ensures { λ _. ⌜ now (line .exit) ≡ drawLineLine (stateOf r status) (now (vram .entry)) (now (line .entry)) number ⌝ }
+    ensures { λ s. ⌜ s ≡ drawColours (stateOf r status) (now (vram .entry)) (now (line .entry)) number .chip .status ⌝ }
+    ensures { λ _. ⌜ now (line .exit) ≡ drawColoursLine (stateOf r status) (now (vram .entry)) (now (line .entry)) number ⌝ }
 {
-    let answer = scanline::draw_line(chip_of(r, status), vram, line, number);
+    let answer = scanline::draw_colours(chip_of(r, status), vram, line, number);
     answer.chip.status
 }
 

@@ -12,3 +12,4 @@ pub mod Found
 pub mod Read
 pub mod Ended
 pub mod Small
+pub mod Codes

@@ -22,12 +22,12 @@ each-beyond r (s ∷ l) read c h =
 pub none-beyond : (r : List ℕ) (l : ℕ) (vram : List ℕ) → ((i : ℕ) → getD vram i 0 < 256) → (c : ℕ) → reach ≤ c → meet r (value (scanOf r l) vram .sprites) c ≡ false
 none-beyond r l vram bytes = each-beyond r (value (scanOf r l) vram .sprites) (found-as-read r l vram bytes)
 
--- Large magnified sprites, and two alike of colour 0 that have one set bit each.
+-- Large magnified sprites, and two of colour 0, alike but for their numbers, that have one set bit each.
 abbrev pub largest : List ℕ
 largest = 0x00 ∷ 0x43 ∷ 0x00 ∷ 0x00 ∷ 0x00 ∷ 0x00 ∷ 0x00 ∷ 0x00 ∷ []
 
 abbrev pub alike : ℕ → ℕ → List Sprite
-alike first bits = record { first = first; colour = 0; bits = bits } ∷ record { first = first; colour = 0; bits = bits } ∷ []
+alike first bits = record { first = first; colour = 0; number = 0; bits = bits } ∷ record { first = first; colour = 0; number = 1; bits = bits } ∷ []
 
 -- The leftmost bit at X 0 with early clock, the rightmost at X 255 without.
 pub both-ends : (meet largest (alike 0 0x8000) 0 ≡ true) × (meet largest (alike 287 0x0001) (reach - 1) ≡ true)

@@ -4,3 +4,4 @@ pub mod Scan
 pub mod Pixels
 pub mod Scanned
 pub mod Rows
+pub mod Codes

@@ -6,6 +6,7 @@ use lib.Dec.{leb, ltb}
 use Rattle.chip.specs.Bits.{bit}
 use Rattle.chip.specs.Modes.{magnified}
 use Rattle.chip.specs.Ranges.{anyBelow}
+use Rattle.planes.specs.Origin.{SpriteColour}
 use Rattle.sprites.specs.Shape.{side, scaled}
 use Rattle.sprites.specs.declared.sprite.Sprite.{Sprite}
 
@@ -22,6 +23,11 @@ hits r s c =
 abbrev pub spriteColours : List ℕ → List Sprite → ℕ → List ℕ
 spriteColours r [] c = []
 spriteColours r (s ∷ l) c = cond (hits r s c) (s .colour) 0 ∷ spriteColours r l c
+
+-- The same with the sprites' numbers.
+abbrev pub numberedColours : List ℕ → List Sprite → ℕ → List SpriteColour
+numberedColours r [] c = []
+numberedColours r (s ∷ l) c = record { number = s .number; colour = cond (hits r s c) (s .colour) 0 } ∷ numberedColours r l c
 
 -- Whether one of the sprites has a set bit at a column, and whether two of them have, of whatever colour.
 abbrev pub anyHits : List ℕ → List Sprite → ℕ → Bool

@@ -27,9 +27,9 @@ spritePatternAddress r l y name =
 abbrev pub firstColumn : ℕ → ℕ → ℕ
 firstColumn x c = cond (bit 7 c) x (x + 32)
 
--- A drawn sprite. The low nibble of its colour byte is the colour; the left half's bits stand above the right half's.
-abbrev pub spriteBy : ℕ → ℕ → ℕ → ℕ → Sprite
-spriteBy x c left right = record { first = firstColumn x c; colour = c % 16; bits = left * 256 + right }
+-- Drawn sprite n. The low nibble of its colour byte is the colour; the left half's bits stand above the right half's.
+abbrev pub spriteBy : ℕ → ℕ → ℕ → ℕ → ℕ → Sprite
+spriteBy n x c left right = record { first = firstColumn x c; colour = c % 16; number = n; bits = left * 256 + right }
 
 -- What is read of a sprite that is drawn: X, name, colour byte and one pattern byte, or with size two, the right half 16 bytes later.
 unfoldable pub spriteOf : List ℕ → ℕ → ℕ → ℕ → Fetch Sprite
@@ -39,8 +39,8 @@ spriteOf r l n y =
     fetch (attributeAddress r n 3) λ c.
     fetch (spritePatternAddress r l y name) λ left.
     cond (largeSprites r)
-    (fetch (spritePatternAddress r l y name + 16) λ right. answer (spriteBy x c left right))
-    (answer (spriteBy x c left 0))
+    (fetch (spritePatternAddress r l y name + 16) λ right. answer (spriteBy n x c left right))
+    (answer (spriteBy n x c left 0))
 
 -- What a scan finds: the sprites to draw, lowest number first, and how it ended.
 pub record Found : Type 0 where

@@ -12,7 +12,7 @@ use Rattle.sprites.specs.declared.sprite.Sprite.{Sprite}
 
 -- What stands where no sprite was found.
 abbrev pub noSprite : Sprite
-noSprite = record { first = 0; colour = 0; bits = 0 }
+noSprite = record { first = 0; colour = 0; number = 0; bits = 0 }
 
 -- What holds of every sprite that a scan reads: it begins at most at the screen's column 255, and without size its right half
 -- is empty.

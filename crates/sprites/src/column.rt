@@ -5,8 +5,8 @@ ghost use Prim.Native.Nat.{_<_};
 ghost use lib.ListN.{length, take};
 ghost use Rattle.chip.specs.State.{masked};
 ghost use Rattle.fetches.specs.Fetch.{value};
-ghost use Rattle.planes.specs.Pixel.{firstNonZero};
-ghost use Rattle.sprites.specs.Pixels.{visible, hits, spriteColours};
+ghost use Rattle.planes.specs.Origin.{frontmost};
+ghost use Rattle.sprites.specs.Pixels.{visible, hits, numberedColours};
 ghost use Rattle.sprites.specs.Scan.{scanOf};
 ghost use Rattle.sprites.specs.Scanned.{Held};
 use crate::columns::bit_at;
@@ -17,7 +17,9 @@ use crate::shape::is_terminator;
 use crate::shape::side;
 use crate::sprite::Sprite;
 use crate::sprite::attribute_address;
-use planes::over;
+use planes::Origin;
+use planes::Pixel;
+use planes::in_front;
 
 // A sprite's colour at column c, counted from 32 left of the screen, and 0 where it has no set bit.
 fn colour_at(r: [u8; 8], s: Sprite, c: usize) -> u8
@@ -33,27 +35,28 @@ fn colour_at(r: [u8; 8], s: Sprite, c: usize) -> u8
     front(bit_at(r, s, c), s.colour)
 }
 
-// The colour at the screen's column x, over what stands behind the sprites there: the highest number first, so that a lower one
+// The pixel at the screen's column x, with the sprites over what stands behind them: the highest number first, so that a lower one
 // comes to lie in front.
-fn sprites_at(r: [u8; 8], scan: Scan, x: usize, behind: u8) -> u8
+fn sprites_at(r: [u8; 8], scan: Scan, x: usize, behind: Pixel) -> Pixel
     requires { ⌜ Held r scan × (x < 256) ⌝ }
-    ensures { λ c. ⌜ c ≡ firstNonZero (spriteColours r (take (scan .drawn) (scan .sprites)) (visible x)) behind ⌝ }
+    ensures { λ p. ⌜ p ≡ frontmost (numberedColours r (take (scan .drawn) (scan .sprites)) (visible x)) behind ⌝ }
 {
     let sprites = scan.sprites;
-    let mut colour = behind;
+    let mut pixel = behind;
     let mut k = scan.drawn;
     while 0 < k {
         k -= 1;
         let s = sprites[k];
-        colour = over(colour_at(r, s, x + 32), colour);
+        let colour = colour_at(r, s, x + 32);
+        pixel = in_front(colour, Origin::Sprite(s.number), pixel);
     }
-    colour
+    pixel
 }
 
 // The same at line l, with the sprites read from VRAM. A picture without sprites has the terminator first, and needs no scan.
-pub fn sprites_over(r: [u8; 8], vram: &[u8], l: u8, x: u8, behind: u8) -> u8
+pub fn sprites_over(r: [u8; 8], vram: &[u8], l: u8, x: u8, behind: Pixel) -> Pixel
     requires { ⌜ (masked r ≡ true) × (length (now vram) ≡ 16384) ⌝ }
-    ensures { λ c. ⌜ c ≡ firstNonZero (spriteColours r (value (scanOf r l) (now (vram .entry)) .sprites) (visible x)) behind ⌝ }
+    ensures { λ p. ⌜ p ≡ frontmost (numberedColours r (value (scanOf r l) (now (vram .entry)) .sprites) (visible x)) behind ⌝ }
 {
     let y = vram[attribute_address(r, 0, 0)];
     if is_terminator(y) {

@@ -3,7 +3,8 @@ ghost use mathlib.Core.Path.{_≡_};
 ghost use lib.ListN.{length, getD, take};
 ghost use Rattle.chip.specs.Lists.{tabulate};
 ghost use Rattle.planes.specs.Pixel as pixel;
-ghost use Rattle.sprites.specs.Pixels.{visible, spriteColours, coincidence};
+ghost use Rattle.sprites.specs.Pixels.{visible, spriteColours, numberedColours, coincidence};
+ghost use Rattle.sprites.specs.Codes.{firstNumber};
 ghost use Rattle.sprites.specs.Scanned.{Held};
 use crate::meet::meets_one;
 use crate::paint::paint_sprite;
@@ -28,4 +29,19 @@ pub fn draw_sprites(line: &mut [u8], r: [u8; 8], scan: Scan) -> bool
         paint_sprite(line, r, s, colour);
     }
     met
+}
+
+// Paints their numbers over the origins of a line.
+pub fn draw_numbers(origins: &mut [u8], r: [u8; 8], scan: Scan)
+    requires { ⌜ (length (now origins) ≡ 256) × Held r scan ⌝ }
+    ensures { λ _. ⌜ now (origins .exit) ≡ tabulate 256 (λ x. firstNumber (numberedColours r (take (scan .drawn) (scan .sprites)) (visible x)) (getD (now (origins .entry)) x 0)) ⌝ }
+{
+    let sprites = scan.sprites;
+    let mut k = scan.drawn;
+    while 0 < k {
+        k -= 1;
+        let s = sprites[k];
+        let number = s.number;
+        paint_sprite(origins, r, s, number);
+    }
 }

@@ -10,7 +10,9 @@ mod shape;
 mod sprite;
 
 pub use column::sprites_over;
+pub use draw::draw_numbers;
 pub use draw::draw_sprites;
 pub use due::scan_dirty;
 pub use scan::Ended;
 pub use scan::scan_of;
+pub use sprite::attribute_address;

@@ -35,6 +35,7 @@ pub fn scan_of(r: [u8; 8], vram: &[u8], l: u8) -> Scan
     let none = Sprite {
         first: 0,
         colour: 0,
+        number: 0,
         bits: 0,
     };
     let mut sprites = [none; 4];

@@ -18,6 +18,8 @@ pub struct Sprite {
     // The first column, counted from 32 left of the screen.
     pub first: u16,
     pub colour: u8,
+    // The place in the attribute table.
+    pub number: u8,
     // A row of the pattern, its left half above its right half.
     pub bits: u16,
 }
@@ -53,13 +55,15 @@ fn first_column(x: u8, c: u8) -> u16
     if bit(c, 7) { x as u16 } else { x as u16 + 32 }
 }
 
-fn sprite_by(x: u8, c: u8, left: u8, right: u8) -> Sprite
-    ensures { λ s. ⌜ s ≡ scan.spriteBy x c left right ⌝ }
+fn sprite_by(n: usize, x: u8, c: u8, left: u8, right: u8) -> Sprite
+    requires { ⌜ n < 32 ⌝ }
+    ensures { λ s. ⌜ s ≡ scan.spriteBy n x c left right ⌝ }
 {
     let first = first_column(x, c);
     Sprite {
         first: first,
         colour: c % 16,
+        number: n as u8,
         bits: left as u16 * 256 + right as u16,
     }
 }
@@ -75,8 +79,8 @@ pub fn sprite_of(r: [u8; 8], vram: &[u8], l: u8, y: u8, n: usize) -> Sprite
     let at = sprite_pattern_address(r, l, y, name);
     let left = vram[at];
     if is_large(r) {
-        sprite_by(x, c, left, vram[at + 16])
+        sprite_by(n, x, c, left, vram[at + 16])
     } else {
-        sprite_by(x, c, left, 0)
+        sprite_by(n, x, c, left, 0)
     }
 }

@@ -38,7 +38,8 @@ pub shows-full-draw : (c : Chip) → wellFormed c ≡ true
     ++ rangesText 0 (runs same (linesFrom (lineAt (fullDrawFrame c vram map frame notes)) 0 192))
 unfolding showText
 shows-full-draw c ok vram full map frame notes m f n =
-    let accepted : drawRefusal c vram map frame notes ≡ Accepted = full-draw-is-line-draws c ok vram full map frame notes m f n (λ l. replicate 256 0) (λ l. length-replicate {A = ℕ} 256 0) .0 in
+    let zeros : length (replicate {A = ℕ} 256 0) ≡ 256 = length-replicate {A = ℕ} 256 0 in
+    let accepted : drawRefusal c vram map frame notes ≡ Accepted = full-draw-is-line-draws c ok vram full map frame notes m f n (record { line = λ l. replicate 256 0; codes = λ l. replicate 256 0 }) (λ l. (zeros, zeros)) .0 in
     let drawn : (l : ℕ) → l < 192 → colours (c .registers) vram l ≡ lineAt (fullDrawFrame c vram map frame notes) l =
     λ l h. sym (ap (λ (t : List ℕ). lineAt t l) (the-new accepted (frameOf (c .registers) vram) frame) ∙ line-of-end (colours (c .registers) vram) 192 (λ k _. length-tabulate 256 _) l h) in
     ap₂ _++_

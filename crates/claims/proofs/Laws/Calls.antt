@@ -14,8 +14,8 @@ use Rattle.chip.specs.declared.state.Chip.{Chip}
 use Rattle.chip.proofs.Laws.Lists.{bytes-zeros}
 use Rattle.chip.proofs.Laws.Refusals.{all-pass, differ}
 use Rattle.chip.proofs.Laws.Ready.{ready-power-up}
-use Rattle.point.specs.Calls.{pointColour}
-use Rattle.point.proofs.Laws.Small.{colour-small}
+use Rattle.point.specs.Calls.{pointColour, pointOrigin}
+use Rattle.point.proofs.Laws.Small.{colour-small, origin-small}
 use Rattle.frame.specs.Lines.{lineCount}
 use Rattle.frame.specs.Due.{due, dueCount}
 use Rattle.frame.proofs.Laws.Lines.{bit-small, count-le}
@@ -42,6 +42,9 @@ line-small c = let most = bit-small (interruptOn c) in omega arith
 
 point-small : (b : Bench) → Fits (b .chip) → Bytes (b .vram) → (l x : ℕ) → pointColour (b .chip .registers) (b .vram) l x < 256
 point-small b fits bytes l x = let below = colour-small (b .chip .registers) (fits .registers) (b .vram) bytes l x in omega arith
+
+origin-byte : (b : Bench) (l x : ℕ) → pointOrigin (b .chip .registers) (b .vram) l x < 256
+origin-byte b l x = let below = origin-small (b .chip .registers) (b .vram) l x in omega arith
 
 -- a snapshot of the right length holds at least eight registers
 long-state : (s : List ℕ) → eqb (length s) 16406 ≡ true → 8 ≤ length (stateBytes s)
@@ -75,7 +78,7 @@ lawful Op.interruptLine =
       effect = λ b h lengths typed p ok. rw ok (changes-no-line _ refl refl (passed-test typed (p .0)) refl refl);
     }
 lawful Op.reset = reset-lawful
-lawful (Op.drawLine line l) = draw-line-lawful line l
+lawful (Op.drawLine line codes l) = draw-line-lawful line codes l
 lawful (Op.point l x) =
     record {
       refusal = λ b. refl;
@@ -83,8 +86,18 @@ lawful (Op.point l x) =
       only-from-c = record { can-refuse = tt; first = λ c e. absurd (differ e); numbers-fit = λ vram bytes h. bytes };
       refused = λ b e. rw e;
       not-entered = λ block b e. by-number _ (rw e);
-      entered = λ b fits bytes e. only-reads (described (Op.point l x)) b fits _ (point-small b fits bytes l x) refl (rw e) (λ m. rw m) (λ ok. rw ok);
-      effect = λ b h lengths typed p ok. rw ok (changes-no-line _ refl refl (passed-test typed (p .1 .0)) refl refl);
+      entered = λ b fits bytes e. only-reads (described (Op.point l x)) b fits _ (point-small b fits bytes l x) refl (rw e) (λ m. refl) (λ ok. refl);
+      effect = λ b h lengths typed p ok. changes-no-line _ refl refl (passed-test typed (p .1 .0)) refl refl;
+    }
+lawful (Op.origin l x) =
+    record {
+      refusal = λ b. refl;
+      can-refuse = λ c. (refl, (refl, tt));
+      only-from-c = nothing-more;
+      refused = λ b e. rw e;
+      not-entered = λ block b e. by-number _ (rw e);
+      entered = λ b fits n e. only-reads (described (Op.origin l x)) b fits _ (origin-byte b l x) refl (rw e) (λ m. refl) (λ ok. refl);
+      effect = λ b h lengths typed p ok. changes-no-line _ refl refl (passed-test typed (p .1 .0)) refl refl;
     }
 lawful Op.fullDraw =
     record {

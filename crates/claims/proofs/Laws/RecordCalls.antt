@@ -100,15 +100,15 @@ reset-lawful =
       effect = λ b h lengths typed p ok. rw ok (sets-mark _ (b .vram) refl (ready-reset (passed-test typed (p .0))) refl (lengths .vram) (typed .vram));
     }
 
-pub draw-line-lawful : (line : List ℕ) (l : ℕ) → Lawful (described (Op.drawLine line l))
+pub draw-line-lawful : (line codes : List ℕ) (l : ℕ) → Lawful (described (Op.drawLine line codes l))
 unfolding blockEntry vramEntry resultThrough blockThrough listThrough
-draw-line-lawful line l =
+draw-line-lawful line codes l =
     record {
       refusal = λ b. refl;
-      can-refuse = λ c. (refl, (refl, tt));
+      can-refuse = λ c. (refl, (refl, (refl, tt)));
       only-from-c = nothing-more;
       refused = λ b e. rw e;
       not-entered = λ block b e. by-number _ (rw e);
-      entered = λ b fits n e. stores (described (Op.drawLine line l)) b fits 0 (lit< tt) refl (rw e) refl (λ m. rw m) (λ ok. rw ok (fits .eight));
+      entered = λ b fits n e. stores (described (Op.drawLine line codes l)) b fits 0 (lit< tt) refl (rw e) refl (λ m. rw m) (λ ok. rw ok (fits .eight));
       effect = λ b h lengths typed p ok. rw ok (changes-no-line _ refl refl (ready-line (passed-test typed (p .1 .0)) (noteAt (b .chip .registers) (b .vram) l)) refl refl);
     }

@@ -33,6 +33,7 @@ use Rattle.log.proofs.Laws.Sound.{Sound, passes, sound-after, Values, values-by
 use Rattle.birdcleft.specs.Calls.{resultThrough, blockThrough, listThrough}
 use Rattle.birdcleft.specs.Logs.{outcomeSize, runEntry, reported}
 use Rattle.birdcleft.proofs.Laws.{sliceTested}
+use Rattle.scanline.specs.Colours.{unseen}
 use Rattle.claims.specs.Bench.{Bench}
 use Rattle.claims.specs.Call.{Op}
 use Rattle.claims.specs.Description.{Left, tests, ofRan, ofOutcome, runs}
@@ -42,31 +43,31 @@ use Rattle.claims.proofs.Laws.Invariant.{Invariant, Effect, bench, keep
 use Rattle.claims.proofs.Laws.Lawful.{parts, benchOf, decodedLeft, asLent, entryTests, Lawful}
 use Rattle.claims.proofs.Laws.RecordCalls.{control-write-lawful, data-write-lawful, data-read-lawful, status-read-lawful, end-of-display-lawful, reset-lawful, draw-line-lawful}
 
-single-lawful : (op : Operation) (v : ℕ) (line : List ℕ) → Lawful (described (singleBy op v line))
-single-lawful DataWrite v line = data-write-lawful v
-single-lawful ControlWrite v line = control-write-lawful v
-single-lawful DataRead v line = data-read-lawful
-single-lawful StatusRead v line = status-read-lawful
-single-lawful DrawLine v line = draw-line-lawful line v
-single-lawful EndOfDisplay v line = end-of-display-lawful
-single-lawful Reset v line = reset-lawful
+single-lawful : (op : Operation) (v : ℕ) (line codes : List ℕ) → Lawful (described (singleBy op v line codes))
+single-lawful DataWrite v line codes = data-write-lawful v
+single-lawful ControlWrite v line codes = control-write-lawful v
+single-lawful DataRead v line codes = data-read-lawful
+single-lawful StatusRead v line codes = status-read-lawful
+single-lawful DrawLine v line codes = draw-line-lawful line codes v
+single-lawful EndOfDisplay v line codes = end-of-display-lawful
+single-lawful Reset v line codes = reset-lawful
 
-single-bytes : (op : Operation) (v : ℕ) (line : List ℕ) → v < 256 → described (singleBy op v line) .brings .AreBytes
-single-bytes DataWrite v line h = h
-single-bytes ControlWrite v line h = h
-single-bytes DataRead v line h = tt
-single-bytes StatusRead v line h = tt
-single-bytes DrawLine v line h = tt
-single-bytes EndOfDisplay v line h = tt
-single-bytes Reset v line h = tt
+single-bytes : (op : Operation) (v : ℕ) (line codes : List ℕ) → v < 256 → described (singleBy op v line codes) .brings .AreBytes
+single-bytes DataWrite v line codes h = h
+single-bytes ControlWrite v line codes h = h
+single-bytes DataRead v line codes h = tt
+single-bytes StatusRead v line codes h = tt
+single-bytes DrawLine v line codes h = tt
+single-bytes EndOfDisplay v line codes h = tt
+single-bytes Reset v line codes h = tt
 
 module _ (frame notes : List ℕ) where
   -- The bench that a run's target stands on.
   abbrev pub benchOn : Target → Bench
   benchOn t = bench (t .chip) (t .vram) (t .map) frame notes
 
-  -- What a single call leaves on it, by the definition of the step and by that of the run.
-  same-bench : (op : Operation) (v : ℕ) (t : Target) → benchOf (described (singleBy op v (t .line)) .directly (benchOn t)) ≡ benchOn (target (answerBy op v t .chip) (vramBy op v t) (mapBy op v t) (lineBy op v t))
+  -- What a single call leaves on it, by the definition of the step and by that of the run, which draws lines by colours alone.
+  same-bench : (op : Operation) (v : ℕ) (t : Target) → benchOf (described (singleBy op v (t .line) unseen) .directly (benchOn t)) ≡ benchOn (target (answerBy op v t .chip) (vramBy op v t) (mapBy op v t) (lineBy op v t))
   unfolding answerBy vramBy mapBy lineBy
   same-bench DataWrite v t = refl
   same-bench ControlWrite v t = refl
@@ -76,7 +77,7 @@ module _ (frame notes : List ℕ) where
   same-bench EndOfDisplay v t = refl
   same-bench Reset v t = refl
 
-  single-passes : {t : Target} → Sound t → (op : Operation) (v : ℕ) → valueAllowed op v ≡ true → AllPass (tests (described (singleBy op v (t .line))) (benchOn t))
+  single-passes : {t : Target} → Sound t → (op : Operation) (v : ℕ) → valueAllowed op v ≡ true → AllPass (tests (described (singleBy op v (t .line) unseen)) (benchOn t))
   single-passes s DataWrite v ok = passes s DataWrite v ok
   single-passes s ControlWrite v ok = passes s ControlWrite v ok
   single-passes s DataRead v ok = passes s DataRead v ok
@@ -94,10 +95,10 @@ module _ (frame notes : List ℕ) where
   keeps-single t r ok small long inv =
       let op : Operation = operationOf (r .operation) in
       let v : ℕ = r .value in
-      let d = described (singleBy op v (t .line)) in
+      let d = described (singleBy op v (t .line) unseen) in
       let p : AllPass (tests d (benchOn t)) = single-passes (sound-on long inv) op v (and-right (leb (r .operation) 6) (valueAllowed op v) ok) in
       subst Invariant (same-bench op v t)
-      (keeps inv (single-lawful op v (t .line) .effect (benchOn t) (single-bytes op v (t .line) small) (inv .lengths) (record { chip = inv .ready .fits; vram = inv .bytes }) p (all-accepted (tests d (benchOn t)) p)))
+      (keeps inv (single-lawful op v (t .line) unseen .effect (benchOn t) (single-bytes op v (t .line) unseen small) (inv .lengths) (record { chip = inv .ready .fits; vram = inv .bytes }) p (all-accepted (tests d (benchOn t)) p)))
 
   keeps-run : (i : ℕ) (rs : List Record) (t : Target) → allAllowed rs ≡ true → Values rs → length (t .line) ≡ 256 → Invariant (benchOn t) → Invariant (benchOn (runFrom i rs t .target))
   unfolding allAllowed runFrom

@@ -5,7 +5,7 @@ use mathlib.Core.Path.{_≡_, _∙_}
 use mathlib.Core.Bool.{Bool, true, false, cond}
 use mathlib.Core.List.{List, [], _∷_}
 use lib.Dec.{lit<}
-use lib.ListN.{length, getD, length-set}
+use lib.ListN.{length, getD, length-set, length-replicate}
 use borrow.Author.Tests.{eq-eqb}
 use Rattle.chip.specs.Bits.{setBit}
 use Rattle.chip.specs.Calls.{dataWriteTests, controlWriteTests, dataReadTests, statusReadTests, endOfDisplayTests, resetTests}
@@ -16,7 +16,8 @@ use Rattle.chip.proofs.Laws.Lists.{length-tabulate}
 use Rattle.chip.proofs.Laws.Ready.{Ready, ready-control, ready-written, ready-read, ready-status-read, ready-ended, ready-reset, either, either-byte}
 use Rattle.chip.proofs.Laws.Refusals.{AllPass}
 use Rattle.chip.proofs.Laws.Registers.{bytes-set}
-use Rattle.scanline.specs.Calls.{noteAt, drawLineTests}
+use Rattle.scanline.specs.Calls.{noteAt}
+use Rattle.scanline.specs.Colours.{drawColoursTests}
 use Rattle.scanline.proofs.Laws.Ready.{ready-line}
 use Rattle.log.specs.Records.{operationOf, valueAllowed, recordsOf}
 use Rattle.log.specs.Single.{Target, target, answerBy, vramBy, mapBy, lineBy, answerTo, after}
@@ -38,7 +39,7 @@ testsBy DataWrite v t = dataWriteTests (t .chip) (t .vram) (t .map)
 testsBy ControlWrite v t = controlWriteTests (t .chip) (t .vram)
 testsBy DataRead v t = dataReadTests (t .chip) (t .vram)
 testsBy StatusRead v t = statusReadTests (t .chip)
-testsBy DrawLine v t = drawLineTests (t .chip) (t .vram) (t .line) v
+testsBy DrawLine v t = drawColoursTests (t .chip) (t .vram) (t .line) v
 testsBy EndOfDisplay v t = endOfDisplayTests (t .chip)
 testsBy Reset v t = resetTests (t .chip)
 
@@ -48,7 +49,7 @@ passes s DataWrite v ok = (eq-eqb _ _ (s .vram), (eq-eqb _ _ (s .map), (s .ready
 passes s ControlWrite v ok = (eq-eqb _ _ (s .vram), (s .ready .well-formed, tt))
 passes s DataRead v ok = (eq-eqb _ _ (s .vram), (s .ready .well-formed, tt))
 passes s StatusRead v ok = (s .ready .well-formed, tt)
-passes s DrawLine v ok = (eq-eqb _ _ (s .vram), (s .ready .well-formed, (eq-eqb _ _ (s .line), (ok, tt))))
+passes s DrawLine v ok = (eq-eqb _ _ (s .vram), (s .ready .well-formed, (eq-eqb _ _ (s .line), (eq-eqb _ _ (length-replicate {A = ℕ} 256 0), (ok, tt)))))
 passes s EndOfDisplay v ok = (s .ready .well-formed, tt)
 passes s Reset v ok = (s .ready .well-formed, tt)
 

@@ -1,24 +1,37 @@
 -- What is written for a point, for a file that is refused, and for numbers that the code caps at a limit.
-use Prim.Native.Nat.{ℕ, _<_, min}
+use Prim.Native.Nat.{ℕ, _≤_, _<_, min}
 use native.Mathlib.Omega.{arith}
 use mathlib.Core.Path.{_≡_, refl, sym, ap, ap₂, _∙_}
 use mathlib.Core.Bool.{Bool, true, false, cond}
-use mathlib.Core.List.{List, [], _∷_}
+use mathlib.Core.List.{List, [], _∷_, _++_}
 use lib.Dec.{leb, lit<}
-use borrow.Author.Tests.{leb-true, leb-false, le-leb, lt-leb}
+use lib.ListN.{length, length-append}
+use borrow.Author.Tests.{eqb-true, leb-true, leb-false, le-leb, lt-leb}
 use Rattle.chip.specs.Refusals.{numberOf, isAccepted, ifAccepted, vramTest, stateTest, refusalOf}
 use Rattle.chip.specs.Ports.{clearedVram}
-use Rattle.chip.specs.State.{powerUpState}
+use Rattle.chip.specs.State.{masked, powerUpState}
 use Rattle.chip.specs.declared.state.Chip.{Chip}
 use Rattle.chip.specs.declared.refusal.Refusal.{Refusal}
 use Rattle.chip.specs.declared.refusal.Refusal.the-variants.{Accepted, LineNumber, ColumnNumber}
 use Rattle.chip.proofs.Laws.Refusals.{the-new, all-pass}
-use Rattle.point.specs.Calls.{pointColour, pointTests, pointRefusal, point}
+use Rattle.chip.proofs.Laws.State.{masked-in}
+use Rattle.point.specs.Calls.{pointColour, pointOrigin, pointTests, pointRefusal, point}
 use Rattle.snapshot.specs.Calls.{readRefusal, readSnapshot, readVram}
 use Rattle.text.specs.Lines.{refusedText}
+use Rattle.text.specs.Numbers.{decimal}
 use Rattle.text.specs.Output.{outputOf}
+use Rattle.text.proofs.Laws.Numbers.{length-decimal}
 use Rattle.pixel.specs.Arguments.{numberIn, rightlyCalled}
-use Rattle.pixel.specs.Output.{usageText, colourText, pointText, pixelOutput}
+use Rattle.pixel.specs.Names.{nameOf}
+use Rattle.pixel.specs.Origins.{originText}
+use Rattle.pixel.specs.Output.{usageText, colourText, shownText, pointText, pixelOutput}
+use Rattle.pixel.proofs.Laws.Names.{name-short}
+
+-- three digits, a blank, a name of 12 letters and a newline
+pub colour-short : (colour : ℕ) → length (colourText colour) ≤ 17
+unfolding colourText
+colour-short colour =
+    omega (arith, length-append (decimal colour) (32 ∷ (nameOf colour ++ (10 ∷ []))), length-append (nameOf colour) (10 ∷ []), length-decimal colour .0, name-short colour)
 
 -- the line of a refusal, where there is one
 pub refused-line : {r s : Refusal} (text : List ℕ) → s ≡ r → isAccepted r ≡ false → refusedText (numberOf r) ≡ ifAccepted s text (refusedText (numberOf s))
@@ -28,13 +41,21 @@ refused-line {r} text e n =
 module _ (c : Chip) (vram : List ℕ) (l x : ℕ) where
   pub point-refused : {r : Refusal} → pointRefusal c vram l x ≡ r → isAccepted r ≡ false → refusedText (numberOf r) ≡ pointText l x c vram
   unfolding pointText
-  point-refused e n = refused-line (colourText (pointColour (c .registers) vram l x)) e n
+  point-refused e n = refused-line (shownText (c .registers) vram l x) e n
 
-  pub point-shown : pointRefusal c vram l x ≡ Accepted → colourText (point c vram l x .value) ≡ pointText l x c vram
-  unfolding pointText
-  point-shown e =
-      let colour = pointColour (c .registers) vram l x in
-      ap colourText (the-new e colour 0) ∙ sym (the-new e (colourText colour) (refusedText (numberOf (pointRefusal c vram l x))))
+  module _ (e : pointRefusal c vram l x ≡ Accepted) where
+    pub point-shown : colourText (point c vram l x .colour) ++ originText (c .registers) vram l x (point c vram l x .origin) ≡ pointText l x c vram
+    unfolding shownText pointText
+    point-shown =
+        let r = c .registers in
+        ap₂ (λ (colour origin : ℕ). colourText colour ++ originText r vram l x origin) (the-new e (pointColour r vram l x) 0) (the-new e (pointOrigin r vram l x) 0)
+        ∙ sym (the-new e (shownText r vram l x) (refusedText (numberOf (pointRefusal c vram l x))))
+
+    -- what an accepted point's numbers and bytes are
+    pub point-given : (masked (c .registers) ≡ true) × (length vram ≡ 16384) × (l < 192)
+    point-given =
+        let p = all-pass (pointTests c vram l x) (refl, (refl, (refl, (refl, tt)))) (ap isAccepted e) in
+        (masked-in c (p .1 .0), eqb-true (length vram) 16384 (p .0), omega (arith, leb-true l 191 (p .1 .1 .0)))
 
 -- a number is as much above a bound when it is capped at a limit further up
 above : (bound limit n : ℕ) → bound < limit → leb (min n limit) bound ≡ leb n bound

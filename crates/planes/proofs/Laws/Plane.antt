@@ -3,7 +3,7 @@ use Prim.Native.Nat.{ℕ, _+_, _*_, _≤_, _<_}
 use native.Mathlib.Nat.{zero-add}
 use native.Mathlib.Omega.{arith}
 use mathlib.Core.Path.{_≡_, ap, _∙_}
-use mathlib.Core.List.{List, []}
+use mathlib.Core.List.{List}
 use borrow.Author.Tests.{le-leb, lt-leb, lt-ltb, le-ltb}
 use lib.Arith.{digits-lt}
 use lib.ListN.{length, getD, replicate, length-replicate, getD-replicate}
@@ -12,7 +12,6 @@ use Rattle.chip.proofs.Laws.Ranges.{and-false}
 use Rattle.planes.specs.Cells.{cellsIn, cellWidth, margin, cellOf, planeOf}
 use Rattle.planes.specs.Plane.{pick, noCell, planeColour}
 use Rattle.planes.specs.Counted.{Counted}
-use Rattle.planes.specs.Pixel.{over, behindPlanes, pixelOf}
 use Rattle.planes.specs.Painted.{Painted}
 use Rattle.chip.specs.Lists.{tabulate}
 use Rattle.fetches.specs.Fetch.{value}
@@ -40,33 +39,34 @@ module _ (m : Mode) (cells : List Cell) where
   unfolding planeColour
   right-of-cells x h = rw (le-ltb _ _ h, and-false)
 
--- The plane over the backdrop, as a line shows it cell by cell.
-module _ (m : Mode) (r : List ℕ) (l : ℕ) (vram : List ℕ) where
-  abbrev pub colour : ℕ → ℕ
-  colour x = pixelOf r [] (planeColour m (value (planeOf m r l) vram) x)
+-- cell i of all that were read
+pub cell-read : (m : Mode) (r : List ℕ) (l : ℕ) (vram : List ℕ) (i : ℕ) → i < cellsIn m → getD (value (planeOf m r l) vram) i noCell ≡ value (cellOf m r l i) vram
+cell-read m r l vram i h = getD-each (cellOf m r l) vram 0 (cellsIn m) i noCell h ∙ ap (λ (j : ℕ). value (cellOf m r l j) vram) (zero-add i)
+
+-- A line of bytes that go by the plane's colour, as it is painted cell by cell. f gives the byte of a colour, and that of colour 0
+-- stands where there is no pattern.
+module _ (f : ℕ → ℕ) (m : Mode) (r : List ℕ) (l : ℕ) (vram : List ℕ) where
+  abbrev pub byPlane : ℕ → ℕ
+  byPlane x = f (planeColour m (value (planeOf m r l) vram) x)
 
   -- before the first cell
-  pub shown-none : {line : List ℕ} → line ≡ replicate 256 (behindPlanes r) → Shown line colour (behindPlanes r) (margin m)
+  pub shown-none : {line : List ℕ} → line ≡ replicate 256 (f 0) → Shown line byPlane (f 0) (margin m)
   shown-none e =
       record {
-        long = ap length e ∙ length-replicate 256 (behindPlanes r);
-        done = λ x h. rw (e, left-of-cells m (value (planeOf m r l) vram) x h) (getD-replicate 256 x (behindPlanes r) 0 (omega (arith, columns-within m)));
-        rest = λ x h below. rw e (getD-replicate 256 x (behindPlanes r) 0 below);
+        long = ap length e ∙ length-replicate 256 (f 0);
+        done = λ x h. rw (e, left-of-cells m (value (planeOf m r l) vram) x h) (getD-replicate 256 x (f 0) 0 (omega (arith, columns-within m)));
+        rest = λ x h below. rw e (getD-replicate 256 x (f 0) 0 below);
       }
 
-  -- cell i of all that were read
-  pub cell-read : (i : ℕ) → i < cellsIn m → getD (value (planeOf m r l) vram) i noCell ≡ value (cellOf m r l i) vram
-  cell-read i h = getD-each (cellOf m r l) vram 0 (cellsIn m) i noCell h ∙ ap (λ (j : ℕ). value (cellOf m r l j) vram) (zero-add i)
-
   -- one cell more
-  pub shown-cell : {line new : List ℕ} {at : ℕ} (i : ℕ) → i < cellsIn m → at ≡ margin m + i * cellWidth m → Shown line colour (behindPlanes r) at → Painted new line at (cellWidth m) (λ k. over (pick (value (cellOf m r l i) vram) k) (behindPlanes r)) → Shown new colour (behindPlanes r) (at + cellWidth m)
+  pub shown-cell : {line new : List ℕ} {at : ℕ} (i : ℕ) → i < cellsIn m → at ≡ margin m + i * cellWidth m → Shown line byPlane (f 0) at → Painted new line at (cellWidth m) (λ k. f (pick (value (cellOf m r l i) vram) k)) → Shown new byPlane (f 0) (at + cellWidth m)
   shown-cell {line} {new} {at} i h e s p = shown-more same s p
     where
-      same : (k : ℕ) → k < cellWidth m → over (pick (value (cellOf m r l i) vram) k) (behindPlanes r) ≡ colour (at + k)
+      same : (k : ℕ) → k < cellWidth m → f (pick (value (cellOf m r l i) vram) k) ≡ byPlane (at + k)
       same k hk =
           let c : Counted m (at + k) i k = record { cell = h; pixel = hk; column = omega arith } in
-          rw (in-cell m (value (planeOf m r l) vram) (at + k) i k c, cell-read i h)
+          rw (in-cell m (value (planeOf m r l) vram) (at + k) i k c, cell-read m r l vram i h)
 
   -- all cells
-  pub shown-plane : {line : List ℕ} → Shown line colour (behindPlanes r) (margin m + cellsIn m * cellWidth m) → line ≡ tabulate 256 colour
-  shown-plane s = shown-all {colour = colour} {behind = behindPlanes r} (λ x h. rw (right-of-cells m (value (planeOf m r l) vram) x h)) s
+  pub shown-plane : {line : List ℕ} → Shown line byPlane (f 0) (margin m + cellsIn m * cellWidth m) → line ≡ tabulate 256 byPlane
+  shown-plane s = shown-all {colour = byPlane} {behind = f 0} (λ x h. rw (right-of-cells m (value (planeOf m r l) vram) x h)) s

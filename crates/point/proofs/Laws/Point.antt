@@ -6,16 +6,18 @@ use Rattle.chip.specs.Modes.{modeOf}
 use Rattle.chip.specs.declared.mode.Mode.{Mode}
 use Rattle.fetches.specs.Fetch.{value, fetched}
 use Rattle.fetches.proofs.Laws.{value-both, fetched-both}
-use Rattle.planes.specs.Pixel.{firstNonZero, pixelOf}
+use Rattle.planes.specs.Origin.{frontmost, settle}
 use Rattle.planes.specs.Plane.{cellColour, cellHolding}
 use Rattle.planes.specs.declared.cell.Cell.{Cell}
+use Rattle.planes.specs.declared.origin.Pixel.{Pixel}
 use Rattle.planes.proofs.Laws.Column.{read-alone}
-use Rattle.sprites.specs.Pixels.{visible, spriteColours}
+use Rattle.sprites.specs.Pixels.{visible, numberedColours}
 use Rattle.sprites.specs.Scan.{Found}
-use Rattle.scanline.specs.Line.{Row, spritesOf, lineOf, settled, colourAt}
+use Rattle.scanline.specs.Line.{Row, spritesOf, lineOf, settled, colourAt, settledPixel, pixelAt}
 use Rattle.scanline.proofs.Laws.Line.{row-is}
-use Rattle.point.specs.Point.{Spot, pointOf, colourOf}
-use Rattle.point.specs.Calls.{pointColour}
+use Rattle.scanline.proofs.SameColours as settles
+use Rattle.point.specs.Point.{Spot, pointOf, colourOf, spotPixel}
+use Rattle.point.specs.Calls.{pointColour, pointPixel}
 
 module _ (r : List ℕ) (l x : ℕ) (vram : List ℕ) where
   abbrev m : Mode
@@ -37,15 +39,33 @@ module _ (r : List ℕ) (l x : ℕ) (vram : List ℕ) where
   unfolding colourOf
   colour-is = ap (λ (s : Spot). colourOf r s x) point-is
 
-  -- the sprites over the plane
-  pub colour-over : {f : Found} → value (spritesOf m r l) vram ≡ f → {c : ℕ} → c ≡ firstNonZero (spriteColours r (f .sprites) (visible x)) (pixelOf r [] (cellColour m (value (cellHolding m r l x) vram) x)) → c ≡ pointColour r vram l x
-  colour-over found e =
-      e ∙ sym (colour-is ∙ ap (λ (g : Found). settled r g (cellColour m (value (cellHolding m r l x) vram) x) x) found)
+  pub pixel-is : pointPixel r vram l x ≡ settledPixel r (value (spritesOf m r l) vram) (cellColour m (value (cellHolding m r l x) vram) x) x
+  unfolding spotPixel
+  pixel-is = ap (λ (s : Spot). spotPixel r s x) point-is
 
-  -- a drawn line has this colour there
+  -- the pixel has the point's colour
+  pub pixel-colour : pointPixel r vram l x .colour ≡ pointColour r vram l x
+  pixel-colour =
+      ap (λ (p : Pixel). p .colour) pixel-is
+      ∙ settles.same-colour r (value (spritesOf m r l) vram) (cellColour m (value (cellHolding m r l x) vram) x) x
+      ∙ sym colour-is
+
+  -- the sprites over the plane
+  pub pixel-over : {f : Found} → value (spritesOf m r l) vram ≡ f → {p : Pixel} → p ≡ frontmost (numberedColours r (f .sprites) (visible x)) (settle r [] (cellColour m (value (cellHolding m r l x) vram) x)) → p ≡ pointPixel r vram l x
+  pixel-over found e =
+      e ∙ sym (pixel-is ∙ ap (λ (g : Found). settledPixel r g (cellColour m (value (cellHolding m r l x) vram) x) x) found)
+
+  -- a drawn line has this colour there, and this pixel
   pub same-colour : pointColour r vram l x ≡ colourAt r (value (lineOf r l) vram) x
   unfolding colourAt
   same-colour =
       colour-is
       ∙ ap (λ (plane : ℕ). settled r (value (spritesOf m r l) vram) plane x) (read-alone m r l vram x)
       ∙ sym (ap (λ (row : Row). colourAt r row x) (row-is r l vram))
+
+  pub same-pixel : pointPixel r vram l x ≡ pixelAt r (value (lineOf r l) vram) x
+  unfolding pixelAt
+  same-pixel =
+      pixel-is
+      ∙ ap (λ (plane : ℕ). settledPixel r (value (spritesOf m r l) vram) plane x) (read-alone m r l vram x)
+      ∙ sym (ap (λ (row : Row). pixelAt r row x) (row-is r l vram))

@@ -9,7 +9,7 @@ use borrow.Author.Tests.{eqb-false}
 use Rattle.chip.specs.Lists.{putAt}
 use Rattle.chip.specs.Refusals.{isAccepted}
 use Rattle.chip.proofs.Laws.Refusals.{differ}
-use Rattle.scanline.specs.Calls.{drawLineRefusal}
+use Rattle.scanline.specs.Colours.{drawColoursRefusal}
 use Rattle.text.proofs.Laws.Put.{put-fits}
 use Rattle.ppm.specs.declared.walk.Next.{Next}
 use Rattle.ppm.specs.declared.walk.Next.the-variants.{Refused, Header, Line}
@@ -21,9 +21,9 @@ use Rattle.ppm.proofs.Laws.Steps.{writesLine, line-below}
 fewer-at : (vram : List ℕ) (n : Next) (w : Walk) → stepAt vram n w .last ≡ false → stepsLeft (stepAt vram n w .walk) < leftFrom n
 fewer-at vram (Refused n) w h = absurd (differ h)
 fewer-at vram Header w h = omega arith
-fewer-at vram (Line l) w h = by (isAccepted (drawLineRefusal (w .chip) vram (replicate 256 0) l)) refl h
+fewer-at vram (Line l) w h = by (isAccepted (drawColoursRefusal (w .chip) vram (replicate 256 0) l)) refl h
   where
-    by : (b : Bool) → isAccepted (drawLineRefusal (w .chip) vram (replicate 256 0) l) ≡ b → cond b (writesLine vram w l) (writesNothing w) .last ≡ false → stepsLeft (cond b (writesLine vram w l) (writesNothing w) .walk) < 192 - l
+    by : (b : Bool) → isAccepted (drawColoursRefusal (w .chip) vram (replicate 256 0) l) ≡ b → cond b (writesLine vram w l) (writesNothing w) .last ≡ false → stepsLeft (cond b (writesLine vram w l) (writesNothing w) .walk) < 192 - l
     by true e more = omega (arith, line-below vram w l e, eqb-false l 191 more)
     by false e more = absurd (differ more)
 

@@ -14,12 +14,15 @@ use Rattle.fetches.proofs.Laws.{value-both, fetched-both, dirty-append}
 use Rattle.planes.specs.Cells.{planeOf}
 use Rattle.planes.specs.Plane.{planeColour}
 use Rattle.planes.specs.Pixel.{firstNonZero, pixelOf}
+use Rattle.planes.specs.Origin.{originCode, settle}
 use Rattle.planes.specs.declared.cell.Cell.{Cell}
 use Rattle.sprites.specs.Scan.{Found, fifthOf}
-use Rattle.sprites.specs.Pixels.{visible, spriteColours, reach, coincidence}
-use Rattle.scanline.specs.Line.{Row, noSprites, spritesOf, lineOf, settled, colourAt}
+use Rattle.sprites.specs.Pixels.{visible, spriteColours, numberedColours, reach, coincidence}
+use Rattle.sprites.specs.Codes.{firstNumber}
+use Rattle.sprites.proofs.Laws.Codes.{first-number}
+use Rattle.scanline.specs.Line.{Row, noSprites, spritesOf, lineOf, settled, colourAt, settledPixel, pixelAt}
 use Rattle.scanline.specs.Notes.{noteBy, noteOf}
-use Rattle.scanline.specs.Calls.{noteAt, colours}
+use Rattle.scanline.specs.Calls.{noteAt, colours, origins}
 
 module _ (r : List ℕ) (l : ℕ) (vram : List ℕ) where
   abbrev m : Mode
@@ -43,6 +46,9 @@ module _ (r : List ℕ) (l : ℕ) (vram : List ℕ) where
   abbrev pub planeLine : List ℕ
   planeLine = tabulate 256 (λ x. pixelOf r [] (planeColour m (value (planeOf m r l) vram) x))
 
+  abbrev pub planeOrigins : List ℕ
+  planeOrigins = tabulate 256 (λ x. originCode (settle r [] (planeColour m (value (planeOf m r l) vram) x) .origin))
+
   module _ (f : Found) (found : value (spritesOf m r l) vram ≡ f) where
     pub note-is : noteBy (fifthOf (f .ended)) (coincidence r (f .sprites)) ≡ noteAt r vram l
     unfolding noteOf
@@ -58,6 +64,17 @@ module _ (r : List ℕ) (l : ℕ) (vram : List ℕ) where
         ap (firstNonZero (spriteColours r (f .sprites) (visible x))) (ap (λ (s : List ℕ). getD s x 0) e ∙ getD-tabulate 256 _ x h)
         ∙ sym (ap (λ (shown : Row). colourAt r shown x) row-is ∙ ap (λ (g : Found). settled r g (planeColour m (value (planeOf m r l) vram) x) x) found))
 
+    -- their numbers over the plane's origins
+    pub numbers-over : {one two : List ℕ} → one ≡ planeOrigins → two ≡ tabulate 256 (λ x. firstNumber (numberedColours r (f .sprites) (visible x)) (getD one x 0)) → two ≡ origins r vram l
+    unfolding pixelAt
+    numbers-over {one} {two} e t =
+        t
+        ∙ tabulate-same 256
+        (λ x h.
+        ap (firstNumber (numberedColours r (f .sprites) (visible x))) (ap (λ (s : List ℕ). getD s x 0) e ∙ getD-tabulate 256 _ x h)
+        ∙ first-number (numberedColours r (f .sprites) (visible x)) (settle r [] (planeColour m (value (planeOf m r l) vram) x))
+        ∙ sym (ap (λ (shown : Row). originCode (pixelAt r shown x .origin)) row-is ∙ ap (λ (g : Found). originCode (settledPixel r g (planeColour m (value (planeOf m r l) vram) x) x .origin)) found))
+
   -- a line without sprites
   module _ (none : value (spritesOf m r l) vram ≡ noSprites) where
     pub plain-note : 32 ≡ noteAt r vram l
@@ -66,3 +83,6 @@ module _ (r : List ℕ) (l : ℕ) (vram : List ℕ) where
 
     pub plain-line : {one : List ℕ} → one ≡ planeLine → one ≡ colours r vram l
     plain-line {one} e = sprites-over noSprites none e (tabulated (ap lib.ListN.length e ∙ length-tabulate 256 _) (λ i h. refl))
+
+    pub plain-origins : {one : List ℕ} → one ≡ planeOrigins → one ≡ origins r vram l
+    plain-origins {one} e = numbers-over noSprites none e (tabulated (ap lib.ListN.length e ∙ length-tabulate 256 _) (λ i h. refl))

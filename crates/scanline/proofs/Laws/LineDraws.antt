@@ -9,13 +9,12 @@ use lib.ListN.{length}
 use borrow.Author.Tests.{eq-eqb, le-leb}
 use Rattle.chip.specs.Lists.{tabulate}
 use Rattle.chip.specs.State.{wellFormed, withStatus}
-use Rattle.chip.specs.Refusals.{vramTest, sliceTest, stateTest, lineTest}
 use Rattle.chip.specs.declared.state.Chip.{Chip}
 use Rattle.chip.specs.declared.refusal.Refusal.the-variants.{Accepted}
 use Rattle.chip.proofs.Laws.Refusals.{the-new, all-accepted}
 use Rattle.scanline.specs.Notes.{statusAfter, statusThrough}
-use Rattle.scanline.specs.Calls.{noteAt, colours, drawLine, drawLineLine, drawLineRefusal}
-use Rattle.scanline.specs.LineDraws.{stateAfter, drawnLine}
+use Rattle.scanline.specs.Calls.{noteAt, colours, origins, drawLineTests, drawLineRefusal, drawLine, drawLineLine, drawLineOrigins}
+use Rattle.scanline.specs.LineDraws.{Slices, stateAfter, drawnLine}
 
 pub one-note-more : (s : ℕ) (l : List ℕ) (n : ℕ) → statusThrough s (l ++ (n ∷ [])) ≡ statusAfter (statusThrough s l) n
 unfolding statusThrough
@@ -43,31 +42,34 @@ still-formed s c ok = ok
 
 module _ (vram : List ℕ) (full : length vram ≡ 16384) where
   -- The draw of one line.
-  module _ (c : Chip) (ok : wellFormed c ≡ true) (slice : List ℕ) (wide : length slice ≡ 256) (l : ℕ) (h : l < 192) where
-    pub line-accepted : drawLineRefusal c vram slice l ≡ Accepted
+  module _ (c : Chip) (ok : wellFormed c ≡ true) (line codes : List ℕ) (wide : (length line ≡ 256) × (length codes ≡ 256)) (l : ℕ) (h : l < 192) where
+    pub line-accepted : drawLineRefusal c vram line codes l ≡ Accepted
     line-accepted =
-        all-accepted (vramTest vram ∷ sliceTest 256 slice ∷ stateTest c ∷ lineTest l ∷ []) (eq-eqb _ _ full, (eq-eqb _ _ wide, (ok, (le-leb l 191 (omega arith), tt))))
+        all-accepted (drawLineTests c vram line codes l) (eq-eqb _ _ full, (ok, (eq-eqb _ _ (wide .0), (eq-eqb _ _ (wide .1), (le-leb l 191 (omega arith), tt)))))
 
-    pub line-drawn : drawLineLine c vram slice l ≡ colours (c .registers) vram l
-    line-drawn = the-new line-accepted (colours (c .registers) vram l) slice
+    pub line-drawn : drawLineLine c vram line codes l ≡ colours (c .registers) vram l
+    line-drawn = the-new line-accepted (colours (c .registers) vram l) line
 
-    state-drawn : drawLine c vram slice l .chip ≡ withStatus (statusAfter (c .status) (noteAt (c .registers) vram l)) c
+    pub origins-drawn : drawLineOrigins c vram line codes l ≡ origins (c .registers) vram l
+    origins-drawn = the-new line-accepted (origins (c .registers) vram l) codes
+
+    state-drawn : drawLine c vram line codes l .chip ≡ withStatus (statusAfter (c .status) (noteAt (c .registers) vram l)) c
     state-drawn = the-new line-accepted (withStatus (statusAfter (c .status) (noteAt (c .registers) vram l)) c) c
 
   -- The draws of lines 0 to n - 1.
-  module _ (slices : ℕ → List ℕ) (wide : (l : ℕ) → length (slices l) ≡ 256) (c : Chip) (ok : wellFormed c ≡ true) where
-    pub state-after : (n : ℕ) → n ≤ 192 → stateAfter n c vram slices ≡ noted n c vram
+  module _ (s : Slices) (wide : (l : ℕ) → (length (s .line l) ≡ 256) × (length (s .codes l) ≡ 256)) (c : Chip) (ok : wellFormed c ≡ true) where
+    pub state-after : (n : ℕ) → n ≤ 192 → stateAfter n c vram s ≡ noted n c vram
     unfolding stateAfter statusThrough tabulate
     state-after zero h = refl
     state-after (suc n) h =
-        ap (λ (d : Chip). drawLine d vram (slices n) n .chip) (state-after n (omega arith))
-        ∙ state-drawn (noted n c vram) (still-formed _ c ok) (slices n) (wide n) n (omega arith)
-        ∙ ap (λ (s : ℕ). withStatus s c) (sym (one-line-more (c .status) (noteAt (c .registers) vram) n))
+        ap (λ (d : Chip). drawLine d vram (s .line n) (s .codes n) n .chip) (state-after n (omega arith))
+        ∙ state-drawn (noted n c vram) (still-formed _ c ok) (s .line n) (s .codes n) (wide n) n (omega arith)
+        ∙ ap (λ (k : ℕ). withStatus k c) (sym (one-line-more (c .status) (noteAt (c .registers) vram) n))
 
-    pub each-accepted : (l : ℕ) → l < 192 → drawLineRefusal (stateAfter l c vram slices) vram (slices l) l ≡ Accepted
+    pub each-accepted : (l : ℕ) → l < 192 → drawLineRefusal (stateAfter l c vram s) vram (s .line l) (s .codes l) l ≡ Accepted
     each-accepted l h =
-        ap (λ (d : Chip). drawLineRefusal d vram (slices l) l) (state-after l (omega arith)) ∙ line-accepted (noted l c vram) (still-formed _ c ok) (slices l) (wide l) l h
+        ap (λ (d : Chip). drawLineRefusal d vram (s .line l) (s .codes l) l) (state-after l (omega arith)) ∙ line-accepted (noted l c vram) (still-formed _ c ok) (s .line l) (s .codes l) (wide l) l h
 
-    pub each-drawn : (l : ℕ) → l < 192 → drawnLine c vram slices l ≡ colours (c .registers) vram l
+    pub each-drawn : (l : ℕ) → l < 192 → drawnLine c vram s l ≡ colours (c .registers) vram l
     each-drawn l h =
-        ap (λ (d : Chip). drawLineLine d vram (slices l) l) (state-after l (omega arith)) ∙ line-drawn (noted l c vram) (still-formed _ c ok) (slices l) (wide l) l h
+        ap (λ (d : Chip). drawLineLine d vram (s .line l) (s .codes l) l) (state-after l (omega arith)) ∙ line-drawn (noted l c vram) (still-formed _ c ok) (s .line l) (s .codes l) (wide l) l h

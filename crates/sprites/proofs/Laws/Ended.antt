@@ -6,4 +6,4 @@ use Rattle.sprites.specs.Scan.{scanOf, fifthOf}
 use Rattle.sprites.proofs.Laws.Found.{scan-finds}
 
 pub ended-small : (r : List ℕ) (l : ℕ) (m : List ℕ) → fifthOf (value (scanOf r l) m .ended) ≤ 32
-ended-small r l m = scan-finds r l m (λ f. fifthOf (f .ended) ≤ 32) (λ e small. small) (λ n y f small. small)
+ended-small r l m = scan-finds r l m (λ f. fifthOf (f .ended) ≤ 32) (λ e small. small) (λ n y low f small. small)

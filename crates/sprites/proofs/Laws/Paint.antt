@@ -1,9 +1,12 @@
--- A line that a loop goes over column by column, from 32 left of the screen.
+-- A line that a loop goes over column by column, from 32 left of the screen, and what a sprite paints in a column.
 use Prim.Native.Nat.{ℕ, _+_, _-_, _≤_, _<_}
 use native.Mathlib.Decide.{decLt}
 use native.Mathlib.Omega.{arith}
 use mathlib.Core.Path.{_≡_, refl, sym, ap, _∙_}
+use mathlib.Core.Bool.{Bool, true, false, cond}
 use mathlib.Core.List.{List}
+use borrow.Author.Tests.{eq-eqb, ne-eqb}
+use lib.Dec.{eqb}
 use lib.ListN.{length, getD, set, length-set}
 use lib.Seq.{getD-set-same, getD-set-other}
 use Rattle.chip.specs.Lists.{tabulate}
@@ -42,3 +45,12 @@ swept-all {new} {old} {f} {c} keeps s = tabulated (s .long) (λ x h. by x h (dec
     by x h (no after) =
         let above : c ≤ visible x = omega arith in
         s .rest x h above ∙ sym (keeps x h above (getD old x 0))
+
+-- where the sprite has colour 0, and where it has another
+pub clear-column : (b : Bool) (colour old value : ℕ) → colour ≡ 0 → old ≡ cond (eqb (cond b colour 0) 0) old value
+clear-column true colour old value e = rw (eq-eqb colour 0 e)
+clear-column false colour old value e = refl
+
+pub coloured-column : (b : Bool) (colour old value : ℕ) → (colour ≡ 0 → ⊥) → cond b value old ≡ cond (eqb (cond b colour 0) 0) old value
+coloured-column true colour old value n = rw (ne-eqb colour 0 n)
+coloured-column false colour old value n = refl

@@ -18,19 +18,19 @@ abbrev EachSmall : List Sprite → Type 0
 EachSmall [] = Unit {0}
 EachSmall (s ∷ l) = (s .colour < 16) × EachSmall l
 
-by-size : (g : Bool) (x c left at : ℕ) (vram : List ℕ) → value (cond g (fetch at λ right. answer (spriteBy x c left right)) (answer (spriteBy x c left 0))) vram .colour < 16
+by-size : (g : Bool) (n x c left at : ℕ) (vram : List ℕ) → value (cond g (fetch at λ right. answer (spriteBy n x c left right)) (answer (spriteBy n x c left 0))) vram .colour < 16
 unfolding value
-by-size true x c left at vram = omega arith
-by-size false x c left at vram = omega arith
+by-size true n x c left at vram = omega arith
+by-size false n x c left at vram = omega arith
 
 sprite-small : (r : List ℕ) (l n y : ℕ) (vram : List ℕ) → value (spriteOf r l n y) vram .colour < 16
 unfolding value spriteOf
 sprite-small r l n y vram =
     let at = spritePatternAddress r l y (getD vram (attributeAddress r n 2) 0) in
-    by-size (largeSprites r) (getD vram (attributeAddress r n 1) 0) (getD vram (attributeAddress r n 3) 0) (getD vram at 0) (at + 16) vram
+    by-size (largeSprites r) n (getD vram (attributeAddress r n 1) 0) (getD vram (attributeAddress r n 3) 0) (getD vram at 0) (at + 16) vram
 
 found-small : (r : List ℕ) (l : ℕ) (vram : List ℕ) → EachSmall (value (scanOf r l) vram .sprites)
-found-small r l vram = scan-finds r l vram (λ f. EachSmall (f .sprites)) (λ e small. tt) (λ n y f rest. (sprite-small r l n y vram, rest))
+found-small r l vram = scan-finds r l vram (λ f. EachSmall (f .sprites)) (λ e small. tt) (λ n y low f rest. (sprite-small r l n y vram, rest))
 
 shown-small : (b : Bool) (colour : ℕ) → colour < 16 → cond b colour 0 < 16
 shown-small true colour h = h

@@ -10,10 +10,11 @@ vdp-draw-line-spec =
     (tie.spec
     (λ c κs. search needs)
     (λ c. search needs)
-    (λ c. (search at-entry, (search at-entry, search at-entry)))
+    (λ c. (search at-entry, (search at-entry, (search at-entry, search at-entry))))
     (λ c κs. search lengths)
     (λ c κs. search needs)
     (λ c κs. search lengths)
     (λ c. search needs)
     (λ c. search needs)
-    (λ c. (search at-end, (search at-end, search at-end))))
+    (λ c. search needs)
+    (λ c. (search at-end, (search at-end, (search at-end, search at-end)))))

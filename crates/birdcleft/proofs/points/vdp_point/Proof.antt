@@ -1,5 +1,7 @@
 -- `vdp_point` meets its contract.
+use mathlib.Core.Path.{ap, _∙_}
 use Rattle.point.specs.Calls as direct
+use Rattle.point.specs.declared.call.PointAnswer.{PointAnswer}
 use Rattle.birdcleft.specs.Calls.{vramEntry}
 use Rattle.birdcleft.proofs.Laws.{lengths, at-entry, direct-result}
 use borrow.Author.Needs.{needs}
@@ -9,11 +11,13 @@ use Rattle.birdcleft.proofs.points.vdp_point.Tie as tie
 -- the direct call on the loaded state, with the numbers as they were given
 returns-2 : tie.Need-returns-2
 returns-2 c =
-    let p = c .before in
+    let k = c .before in
+    let p = k .before in
     let e = p .before .before in
     let v = e .before in
     let a = v .before .before .before .args in
-    direct-result (vramEntry (a .block .now) (a .vram .now)) (a .block .now) (λ s. direct.point s (a .vram .now) (a .line) (a .column)) (v .vram-entry .ensures) (e .if1 .left) (p .before .load .ensures) (p .point .ensures) (c .number .ensures)
+    direct-result (vramEntry (a .block .now) (a .vram .now)) (a .block .now) (λ s. direct.colourAnswer (direct.point s (a .vram .now) (a .line) (a .column))) (v .vram-entry .ensures) (e .if1 .left) (p .before .load .ensures)
+    (k .colour-answer .ensures ∙ ap (λ (q : PointAnswer). direct.colourAnswer q) (p .point .ensures)) (c .number .ensures)
 
 pub vdp-point-spec : {M : Type 1} → statement M
 vdp-point-spec =
@@ -22,6 +26,7 @@ vdp-point-spec =
     (λ c κs. search needs)
     (λ c. search at-entry)
     (λ c κs. search lengths)
+    (λ c κs. search needs)
     (λ c κs. search needs)
     (λ c κs. search needs)
     returns-2)

@@ -32,8 +32,8 @@ status-read-requires c κs = search needs
 enum-told-5 : tie.Need-enum-told-5
 enum-told-5 c = search needs
 
-draw-line-requires : tie.Need-draw-line-requires
-draw-line-requires c κs = search needs
+draw-colours-requires : tie.Need-draw-colours-requires
+draw-colours-requires c κs = search needs
 
 enum-told-6 : tie.Need-enum-told-6
 enum-told-6 c = search needs
@@ -87,7 +87,7 @@ returns-5 : tie.Need-returns-5
 unfolding answerBy vramBy mapBy lineBy
 returns-5 c =
     let d = c .before .before in
-    rw (d .before .before .before .enum-told5 .given .1) (d .draw-line .ensures .0, (refl, (refl, d .draw-line .ensures .1)))
+    rw (d .before .before .before .enum-told5 .given .1) (d .draw-colours .ensures .0, (refl, (refl, d .draw-colours .ensures .1)))
 
 returns-6 : tie.Need-returns-6
 unfolding answerBy vramBy mapBy lineBy
@@ -110,7 +110,7 @@ make-call-spec =
     enum-told-4
     status-read-requires
     enum-told-5
-    draw-line-requires
+    draw-colours-requires
     enum-told-6
     end-of-display-requires
     enum-told-7

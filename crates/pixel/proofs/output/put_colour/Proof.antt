@@ -18,17 +18,17 @@ use Rattle.pixel.proofs.output.put_colour.Statement.{statement}
 use Rattle.pixel.proofs.output.put_colour.Tie as tie
 
 -- where each part ends at most, in a slice that stays as long as it was
-number-ends : (c : tie.After-put-decimal) → (c .put-decimal .result ≤ 3) × (64 ≤ length (c .put-decimal .last .0))
+number-ends : (c : tie.After-put-decimal) → (c .put-decimal .result ≤ 3) × (128 ≤ length (c .put-decimal .last .0))
 number-ends c =
     let s = c .before .before .before in
     (omega (arith, length-decimal (s .args .colour) .0, c .put-decimal .ensures .0), omega (arith, c .put-decimal .kept .0, s .pre))
 
-name-starts : (c : tie.After-put) → (c .put .result ≤ 4) × (64 ≤ length (c .put .last .0))
+name-starts : (c : tie.After-put) → (c .put .result ≤ 4) × (128 ≤ length (c .put .last .0))
 name-starts c =
     let e = number-ends (c .before .before .before .before .before) in
     (omega (arith, c .put .ensures .0), omega (arith, c .put .kept .0))
 
-name-ends : (c : tie.After-put-name) → (c .put-name .result ≤ 16) × (64 ≤ length (c .put-name .last .0))
+name-ends : (c : tie.After-put-name) → (c .put-name .result ≤ 16) × (128 ≤ length (c .put-name .last .0))
 name-ends c =
     let p = c .before .before .before .before in
     let e = name-starts p in

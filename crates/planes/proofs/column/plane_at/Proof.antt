@@ -12,14 +12,14 @@ use Rattle.planes.proofs.column.plane_at.Tie as tie
 held : (c : tie.Else1) → inCells (c .before .before .before .before .args .mode) (c .before .before .before .before .args .x) ≡ true
 held c = left-not (c .before .in-cells .ensures) (c .if1 .left)
 
-behind-planes-requires : tie.Need-behind-planes-requires
-behind-planes-requires c κs = search needs
+pixel-behind-requires : tie.Need-pixel-behind-requires
+pixel-behind-requires c κs = search needs
 
 in-cells-requires : tie.Need-in-cells-requires
 in-cells-requires c κs = search needs
 
 returns : tie.Need-returns
-returns c = rw (taken-not (c .before .in-cells .ensures) (c .if1 .taken)) (c .before .before .behind-planes .ensures)
+returns c = rw (taken-not (c .before .in-cells .ensures) (c .if1 .taken)) (c .before .before .pixel-behind .ensures)
 
 place-of-requires : tie.Need-place-of-requires
 place-of-requires c κs = held c
@@ -34,24 +34,24 @@ pick-requires c κs =
     let s = c .before .before .before .before .before .before in
     rw (c .before .place-of .ensures) (pixel-one (s .args .mode) (s .args .x))
 
-over-requires : tie.Need-over-requires
-over-requires c κs = search needs
+in-front-requires : tie.Need-in-front-requires
+in-front-requires c κs = search needs
 
 returns-2 : tie.Need-returns-2
 returns-2 c =
     let p = c .before .before .before in
     let s = p .before .before .before .before .before in
-    rw (held (p .before)) (rw (c .before .pick .ensures, c .before .before .cell-of .ensures, p .place-of .ensures, p .before .before .before .behind-planes .ensures) at (c .over .ensures))
+    rw (held (p .before)) (rw (c .before .pick .ensures, c .before .before .cell-of .ensures, p .place-of .ensures, p .before .before .before .pixel-behind .ensures) at (c .in-front .ensures))
 
 pub plane-at-spec : {M : Type 1} → statement M
 plane-at-spec =
     tie.close
     (tie.spec
-    behind-planes-requires
+    pixel-behind-requires
     in-cells-requires
     returns
     place-of-requires
     cell-of-requires
     pick-requires
-    over-requires
+    in-front-requires
     returns-2)

@@ -4,17 +4,18 @@ use native.Mathlib.Nat.{zero-mul, add-zero, suc-mul}
 use native.Mathlib.Numerals.{add-one}
 use native.Mathlib.Omega.{arith}
 use mathlib.Core.Path.{_≡_, ap, _∙_}
+use mathlib.Core.List.{[]}
 use borrow.Author.Needs.{needs}
 use Rattle.planes.specs.Cells.{cellsIn, cellWidth, margin}
-use Rattle.planes.specs.Pixel.{behindPlanes}
+use Rattle.planes.specs.Pixel.{behindPlanes, pixelOf}
 use Rattle.planes.proofs.Laws.Cells.{run-within, eight-or-six, cells-few}
 use Rattle.planes.proofs.Laws.Painted.{Shown}
-use Rattle.planes.proofs.Laws.Plane.{colour, shown-none, shown-cell, shown-plane}
+use Rattle.planes.proofs.Laws.Plane.{byPlane, shown-none, shown-cell, shown-plane}
 use Rattle.planes.proofs.plane.draw_plane.Statement.{statement}
 use Rattle.planes.proofs.plane.draw_plane.Tie as tie
 
 abbrev Inv-loop : tie.InvT-loop
-Inv-loop mode r vram l line₀ behind cells width at₀ i₀ line at i = (i ≤ cellsIn mode) × (at ≡ margin mode + i * cellWidth mode) × Shown line (colour mode r l vram) (behindPlanes r) at
+Inv-loop mode r vram l line₀ behind cells width at₀ i₀ line at i = (i ≤ cellsIn mode) × (at ≡ margin mode + i * cellWidth mode) × Shown line (byPlane (pixelOf r []) mode r l vram) (behindPlanes r) at
 
 abbrev μ-loop : tie.MeasureT-loop
 μ-loop mode r vram l line₀ behind cells width at₀ i₀ line at i = cellsIn mode - i
@@ -53,7 +54,7 @@ loop-holds c =
     let f = c .before .before .before .before .before in
     let a = Start c .args in
     let filled = rw (f .before .before .behind-planes .ensures, Start c .pre .3) at (f .fill .ensures) in
-    (zero-le, rw (zero-mul, add-zero) (c .margin-of .ensures), rw (c .margin-of .ensures) (shown-none (a .mode) (a .r) (a .l) (a .vram .now) filled))
+    (zero-le, rw (zero-mul, add-zero) (c .margin-of .ensures), rw (c .margin-of .ensures) (shown-none (pixelOf (a .r) []) (a .mode) (a .r) (a .l) (a .vram .now) filled))
 
 cell-of-requires : tie.Need-cell-of-requires Inv-loop μ-loop
 cell-of-requires c κs =
@@ -83,7 +84,7 @@ loop-again c =
     let painted = simp (width i, d .before .before .cell-of .ensures, i .before .before .before .before .before .before .before .before .before .behind-planes .ensures) at (d .show-cell .ensures) in (
       omega (arith, more i),
       rw (width i, add-one, suc-mul) (omega arith),
-      rw (width i) (shown-cell (a .mode) (a .r) (a .l) (a .vram .now) (h .i) (more i) (h .inv .1) (h .inv .2) painted),
+      rw (width i) (shown-cell (pixelOf (a .r) []) (a .mode) (a .r) (a .l) (a .vram .now) (h .i) (more i) (h .inv .1) (h .inv .2) painted),
     )
 
 same-length : tie.Need-same-length Inv-loop μ-loop
@@ -93,7 +94,7 @@ returns : tie.Need-returns Inv-loop μ-loop
 returns c =
     let a = Start (c .before .before) .args in
     let all : c .before .loop .i ≡ cellsIn (a .mode) = omega (arith, rw (c .before .before .before .before .cells-in .ensures) at (c .loop-test .left)) in
-    shown-plane (a .mode) (a .r) (a .l) (a .vram .now) (rw (c .before .loop .inv .1 ∙ ap (λ (n : ℕ). margin (a .mode) + n * cellWidth (a .mode)) all) at (c .before .loop .inv .2))
+    shown-plane (pixelOf (a .r) []) (a .mode) (a .r) (a .l) (a .vram .now) (rw (c .before .loop .inv .1 ∙ ap (λ (n : ℕ). margin (a .mode) + n * cellWidth (a .mode)) all) at (c .before .loop .inv .2))
 
 pub draw-plane-spec : {M : Type 1} → statement M
 draw-plane-spec =

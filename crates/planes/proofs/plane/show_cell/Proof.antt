@@ -1,9 +1,9 @@
 -- `show_cell` meets its contract.
-use Prim.Native.Nat.{_-_, _/_, _%_}
-use native.Mathlib.Omega.{arith}
+use Prim.Native.Nat.{ℕ, _-_, _/_, _%_}
 use Rattle.chip.specs.Bits.{bit}
+use Rattle.planes.specs.Pixel.{over}
 use Rattle.planes.proofs.Laws.Painted.{painted-as}
-use Rattle.planes.proofs.Laws.Pixel.{over-cond}
+use Rattle.planes.proofs.Laws.Pixel.{cond-of}
 use borrow.Author.Needs.{needs}
 use Rattle.planes.proofs.plane.show_cell.Statement.{statement}
 use Rattle.planes.proofs.plane.show_cell.Tie as tie
@@ -14,13 +14,8 @@ over-requires c κs = search needs
 over-requires-2 : tie.Need-over-requires-2
 over-requires-2 c κs = search needs
 
-paint-eight-requires : tie.Need-paint-eight-requires
-paint-eight-requires c κs = search needs
-
-paint-six-requires : tie.Need-paint-six-requires
-paint-six-requires c κs =
-    let six = c .before .before .before .before .before .before .before .pre .1 (c .before .if1 .left) in
-    omega arith
+paint-pattern-requires : tie.Need-paint-pattern-requires
+paint-pattern-requires c κs = search needs
 
 same-length : tie.Need-same-length
 same-length c = search needs
@@ -28,31 +23,11 @@ same-length c = search needs
 returns : tie.Need-returns
 returns c =
     let p = c .before .before in
-    let z = p .before .before .before in
+    let z = p .before .before in
     let a = z .before .before .before .before .before .args in
-    let width = p .before .before .if1 .taken in
-    rw width (painted-as (λ k. over-cond (bit (7 - k) (a .cell .pattern)) (a .cell .colours / 16) (a .cell .colours % 16) (a .behind) (z .before .before .over .ensures) (z .over2 .ensures)) (p .paint-eight .ensures))
-
-same-length-2 : tie.Need-same-length-2
-same-length-2 c = search needs
-
-returns-2 : tie.Need-returns-2
-returns-2 c =
-    let p = c .before .before in
-    let z = p .before .before .before in
-    let a = z .before .before .before .before .before .args in
-    let width = z .before .before .before .before .before .pre .1 (p .before .before .if1 .left) in
-    rw width (painted-as (λ k. over-cond (bit (7 - k) (a .cell .pattern)) (a .cell .colours / 16) (a .cell .colours % 16) (a .behind) (z .before .before .over .ensures) (z .over2 .ensures)) (p .paint-six .ensures))
+    painted-as (λ k. cond-of (λ (x : ℕ). over x (a .behind)) (bit (7 - k) (a .cell .pattern)) (a .cell .colours / 16) (a .cell .colours % 16) (z .before .before .over .ensures) (z .over2 .ensures)) (p .paint-pattern .ensures)
 
 pub show-cell-spec : {M : Type 1} → statement M
 show-cell-spec =
     tie.close
-    (tie.spec
-    over-requires
-    over-requires-2
-    paint-eight-requires
-    paint-six-requires
-    same-length
-    returns
-    same-length-2
-    returns-2)
+    (tie.spec over-requires over-requires-2 paint-pattern-requires same-length returns)

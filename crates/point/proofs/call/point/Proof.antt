@@ -1,13 +1,23 @@
 -- `point` meets its contract.
 use native.Mathlib.Omega.{arith}
-use mathlib.Core.Path.{_≡_}
+use Prim.Native.Nat.{ℕ}
+use mathlib.Core.Path.{_≡_, ap, ap₂, _∙_}
 use mathlib.Core.Bool.{true, false}
 use lib.Dec.{leb}
 use borrow.Author.Tests.{eq-eqb, ne-eqb, le-leb, lt-leb}
+use Rattle.chip.specs.declared.state.Chip.{Chip}
+use Rattle.chip.specs.declared.refusal.Refusal.the-variants.{Accepted}
 use Rattle.chip.proofs.Laws.State.{taken-not, left-not, masked-in}
+use Rattle.planes.specs.Origin.{originCode}
+use Rattle.planes.specs.declared.origin.Pixel.{Pixel}
+use Rattle.point.specs.declared.call.PointAnswer.{PointAnswer}
+use Rattle.point.proofs.Laws.Point.{pixel-colour}
 use borrow.Author.Needs.{needs}
 use Rattle.point.proofs.call.point.Statement.{statement}
 use Rattle.point.proofs.call.point.Tie as tie
+
+abbrev the-answer : Chip → ℕ → ℕ → PointAnswer
+the-answer chip colour origin = record { chip = chip; refusal = Accepted; colour = colour; origin = origin }
 
 -- the function's entry, seen from the test of the state
 abbrev Entry : tie.After-is-well-formed → tie.Start
@@ -52,21 +62,21 @@ returns-4 c =
     let far : leb (Entry w .args .column) 255 ≡ false = lt-leb _ _ (c .before .if4 .taken) in
     rw (eq-eqb _ _ (w .before .if1 .left), left-not (w .is-well-formed .ensures) (e .if2 .left), low, far) (c .refused4 .ensures)
 
-cast-colour-of : tie.Need-cast-colour-of
-cast-colour-of c = search needs
+cast-pixel-of : tie.Need-cast-pixel-of
+cast-pixel-of c = search needs
 
-cast-colour-of-2 : tie.Need-cast-colour-of-2
-cast-colour-of-2 c = search needs
+cast-pixel-of-2 : tie.Need-cast-pixel-of-2
+cast-pixel-of-2 c = search needs
 
-colour-of-requires : tie.Need-colour-of-requires
-colour-of-requires c κs =
+pixel-of-requires : tie.Need-pixel-of-requires
+pixel-of-requires c κs =
     let l = c .before .before in
     let e = l .before in
     let w = e .before in
     (masked-in _ (left-not (w .is-well-formed .ensures) (e .if2 .left)), w .before .if1 .left, omega (arith, l .if3 .left))
 
-accepted-requires : tie.Need-accepted-requires
-accepted-requires c κs = search needs
+code-requires : tie.Need-code-requires
+code-requires c κs = search needs
 
 returns-5 : tie.Need-returns-5
 returns-5 c =
@@ -78,7 +88,9 @@ returns-5 c =
     let low : leb (Entry w .args .line) 191 ≡ true = le-leb _ _ (l .if3 .left) in
     let near : leb (Entry w .args .column) 255 ≡ true = le-leb _ _ (x .if4 .left) in
     rw (eq-eqb _ _ (w .before .if1 .left), left-not (w .is-well-formed .ensures) (e .if2 .left), low, near)
-    (rw (k .colour-of .ensures) at (c .accepted .ensures))
+    (ap₂ (λ (colour origin : ℕ). the-answer (Entry w .args .chip) colour origin)
+    (ap (λ (p : Pixel). p .colour) (k .pixel-of .ensures) ∙ pixel-colour (Entry w .args .chip .registers) (Entry w .args .line) (Entry w .args .column) (Entry w .args .vram .now))
+    (c .code .ensures ∙ ap (λ (p : Pixel). originCode (p .origin)) (k .pixel-of .ensures)))
 
 pub point-spec : {M : Type 1} → statement M
 point-spec =
@@ -93,8 +105,8 @@ point-spec =
     returns-3
     refused-requires-4
     returns-4
-    cast-colour-of
-    cast-colour-of-2
-    colour-of-requires
-    accepted-requires
+    cast-pixel-of
+    cast-pixel-of-2
+    pixel-of-requires
+    code-requires
     returns-5)

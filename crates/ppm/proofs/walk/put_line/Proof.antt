@@ -17,11 +17,11 @@ use borrow.Author.Needs.{needs}
 use Rattle.ppm.proofs.walk.put_line.Statement.{statement}
 use Rattle.ppm.proofs.walk.put_line.Tie as tie
 
-slice-aggregate-draw-line : tie.Need-slice-aggregate-draw-line
-slice-aggregate-draw-line c = search needs
+slice-aggregate-draw-colours : tie.Need-slice-aggregate-draw-colours
+slice-aggregate-draw-colours c = search needs
 
-draw-line-requires : tie.Need-draw-line-requires
-draw-line-requires c κs = search needs
+draw-colours-requires : tie.Need-draw-colours-requires
+draw-colours-requires c κs = search needs
 
 number-requires : tie.Need-number-requires
 number-requires c κs = search needs
@@ -33,7 +33,7 @@ returns : tie.Need-returns
 returns c =
     let n = c .before .before in
     let a = n .before .before .before .before .before .before .before .args in
-    rw (not-drawn (now (a .vram)) (a .walk) (a .l) (n .before .before .draw-line .ensures .0) (n .number .ensures) (c .before .if1 .taken)) (c .nothing .ensures, refl)
+    rw (not-drawn (now (a .vram)) (a .walk) (a .l) (n .before .before .draw-colours .ensures .0) (n .number .ensures) (c .before .if1 .taken)) (c .nothing .ensures, refl)
 
 slice-aggregate-paint : tie.Need-slice-aggregate-paint
 slice-aggregate-paint c = search needs
@@ -45,7 +45,7 @@ add-below : tie.Need-add-below
 add-below c =
     let n = c .before .before .before .before .before .before in
     let a = n .before .before .before .before .before .before .before .args in
-    omega (arith, drawn-below (now (a .vram)) (a .walk) (a .l) (n .before .before .draw-line .ensures .0) (n .number .ensures) (c .before .before .before .before .before .if1 .left))
+    omega (arith, drawn-below (now (a .vram)) (a .walk) (a .l) (n .before .before .draw-colours .ensures .0) (n .number .ensures) (c .before .before .before .before .before .if1 .left))
 
 same-length : tie.Need-same-length
 same-length c = search needs
@@ -53,7 +53,7 @@ same-length c = search needs
 returns-2 : tie.Need-returns-2
 returns-2 c =
     let n = c .before .before .before .before .before .before in
-    let d = n .before .before .draw-line in
+    let d = n .before .before .draw-colours in
     let zero = c .before .before .before .before .before .if1 .left in
     let a = n .before .before .before .before .before .before .before .args in
     let line = drawn-line (now (a .vram)) (a .walk) (a .l) (d .ensures .0) (n .number .ensures) zero (d .ensures .1) in
@@ -65,8 +65,8 @@ pub put-line-spec : {M : Type 1} → statement M
 put-line-spec =
     tie.close
     (tie.spec
-    slice-aggregate-draw-line
-    draw-line-requires
+    slice-aggregate-draw-colours
+    draw-colours-requires
     number-requires
     nothing-requires
     returns

@@ -3,8 +3,8 @@ use Prim.Native.Nat.{_-_, _≤_, _<_}
 use native.Mathlib.Omega.{arith}
 use mathlib.Core.Path.{_≡_}
 use lib.ListN.{take, drop}
-use Rattle.planes.specs.Pixel.{firstNonZero}
-use Rattle.sprites.specs.Pixels.{visible, spriteColours}
+use Rattle.planes.specs.Origin.{frontmost}
+use Rattle.sprites.specs.Pixels.{visible, numberedColours}
 use Rattle.sprites.specs.Scanned.{noSprite}
 use Rattle.sprites.proofs.Laws.Draw.{one-lower, none-higher}
 use borrow.Author.Needs.{needs}
@@ -12,10 +12,10 @@ use Rattle.sprites.proofs.column.sprites_at.Statement.{statement}
 use Rattle.sprites.proofs.column.sprites_at.Tie as tie
 
 abbrev Inv-loop : tie.InvT-loop
-Inv-loop r x behind sprites colour₀ k₀ colour k = (k ≤ k₀) × (colour ≡ firstNonZero (spriteColours r (drop k (take k₀ sprites)) (visible x)) behind)
+Inv-loop r x sprites pixel₀ k₀ pixel k = (k ≤ k₀) × (pixel ≡ frontmost (numberedColours r (drop k (take k₀ sprites)) (visible x)) pixel₀)
 
 abbrev μ-loop : tie.MeasureT-loop
-μ-loop r x behind sprites colour₀ k₀ colour k = k
+μ-loop r x sprites pixel₀ k₀ pixel k = k
 
 loop-holds : tie.Need-loop-holds Inv-loop μ-loop
 loop-holds c =
@@ -42,8 +42,8 @@ add-colour-at c = omega arith
 colour-at-requires : tie.Need-colour-at-requires Inv-loop μ-loop
 colour-at-requires c κs = search needs
 
-over-requires : tie.Need-over-requires Inv-loop μ-loop
-over-requires c κs = search needs
+in-front-requires : tie.Need-in-front-requires Inv-loop μ-loop
+in-front-requires c κs = search needs
 
 loop-less : tie.Need-loop-less Inv-loop μ-loop
 loop-less c = omega (arith, c .before .before .before .loop-test .taken)
@@ -57,7 +57,7 @@ loop-again c =
     let n = s .args .scan .drawn in (
       omega arith,
       rw (one-lower sprites n (h .k) noSprite (i .loop-test .taken) (h .inv .0) (omega (arith, s .pre .0 .room, s .pre .0 .few)))
-          (rw (c .before .colour-at .ensures, h .inv .1) at (c .over .ensures)),
+          (rw (c .before .colour-at .ensures, h .inv .1) at (c .in-front .ensures)),
     )
 
 returns : tie.Need-returns Inv-loop μ-loop
@@ -78,7 +78,7 @@ sprites-at-spec =
     array-copy-out-s
     add-colour-at
     colour-at-requires
-    over-requires
+    in-front-requires
     loop-less
     loop-again
     returns)

@@ -5,8 +5,8 @@ use mathlib.Core.Path.{_≡_, sym, ap, _∙_}
 use mathlib.Core.Bool.{true}
 use lib.Dec.{lit<, eqb}
 use lib.ListN.{getD}
-use Rattle.planes.specs.Pixel.{firstNonZero}
-use Rattle.sprites.specs.Pixels.{visible, spriteColours}
+use Rattle.planes.specs.Origin.{frontmost}
+use Rattle.sprites.specs.Pixels.{visible, numberedColours}
 use Rattle.sprites.specs.Scan.{attributeAddress, Found}
 use Rattle.sprites.proofs.Laws.Bounds.{attribute-inside}
 use Rattle.sprites.proofs.Laws.Scan.{at-terminator}
@@ -31,7 +31,7 @@ returns c =
     let t = c .before in
     let a = t .before .before .before .before .args in
     let first : eqb (getD (a .vram .now) (attributeAddress (a .r) 0 0) 0) 208 ≡ true = rw (t .before .before .attribute-address .ensures) at (sym (t .is-terminator .ensures) ∙ c .if1 .taken) in
-    sym (ap (λ (f : Found). firstNonZero (spriteColours (a .r) (f .sprites) (visible (a .x))) (a .behind)) (at-terminator (a .r) (a .l) (a .vram .now) 0 0 (lit< tt) first))
+    sym (ap (λ (f : Found). frontmost (numberedColours (a .r) (f .sprites) (visible (a .x))) (a .behind)) (at-terminator (a .r) (a .l) (a .vram .now) 0 0 (lit< tt) first))
 
 scan-of-requires : tie.Need-scan-of-requires
 scan-of-requires c κs = search needs

@@ -1,100 +1,32 @@
 -- `paint_sprite` meets its contract.
-use Prim.Native.Nat.{ℕ, _-_, _+_, _≤_, _<_, max}
-use native.Mathlib.Omega.{arith}
-use mathlib.Core.Path.{_≡_}
-use mathlib.Core.Bool.{cond}
-use borrow.Author.Needs.{needs}
-use Rattle.planes.specs.Pixel.{over}
-use Rattle.sprites.specs.Shape.{side}
+use mathlib.Core.Path.{_∙_}
+use lib.ListN.{getD}
+use Rattle.chip.proofs.Laws.Lists.{tabulated, tabulate-same}
 use Rattle.sprites.specs.Pixels.{visible, hits}
-use Rattle.sprites.proofs.Laws.Columns.{hits-left, hits-right}
-use Rattle.sprites.proofs.Laws.Paint.{Swept, swept-none, swept-more, swept-all}
+use Rattle.sprites.proofs.Laws.Paint.{clear-column, coloured-column}
+use borrow.Author.Needs.{needs}
 use Rattle.sprites.proofs.paint.paint_sprite.Statement.{statement}
 use Rattle.sprites.proofs.paint.paint_sprite.Tie as tie
 
-abbrev Inv-loop : tie.InvT-loop
-Inv-loop line₀ r s colour end c₀ line c = (max (s .first) 32 ≤ c) × Swept line line₀ (λ x o. over (cond (hits r s (visible x)) colour 0) o) c
-
-abbrev μ-loop : tie.MeasureT-loop
-μ-loop line₀ r s colour end c₀ line c = 288 - c
-
--- where the loop still goes on, c is one of the sprite's columns and on the screen
-in-sprite : (c : tie.In-loop Inv-loop μ-loop) → c .before .loop .c < c .before .before .before .before .before .args .s .first + side (c .before .before .before .before .before .args .r)
-in-sprite c = omega (arith, c .before .before .before .end-visible .ensures, c .loop-test .taken)
-
-on-screen : (c : tie.In-loop Inv-loop μ-loop) → c .before .loop .c < 288
-on-screen c = omega (arith, c .before .before .before .end-visible .ensures, c .loop-test .taken)
-
-end-visible-requires : tie.Need-end-visible-requires Inv-loop μ-loop
-end-visible-requires c κs = search needs
-
-first-visible-requires : tie.Need-first-visible-requires Inv-loop μ-loop
-first-visible-requires c κs = search needs
-
-loop-holds : tie.Need-loop-holds Inv-loop μ-loop
-loop-holds c =
-    let a = c .before .before .before .args in
-    (omega (arith, c .first-visible .ensures), swept-none (c .before .before .before .pre) (λ x below o. rw (hits-left (a .r) (a .s) (visible x) (omega (arith, c .first-visible .ensures)))))
-
-sub-x : tie.Need-sub-x Inv-loop μ-loop
-sub-x c = omega arith
-
-bit-at-requires : tie.Need-bit-at-requires Inv-loop μ-loop
-bit-at-requires c κs = (omega arith, in-sprite c)
-
-front-requires : tie.Need-front-requires Inv-loop μ-loop
-front-requires c κs = search needs
-
-slice-read-over : tie.Need-slice-read-over Inv-loop μ-loop
-slice-read-over c = omega (arith, on-screen (c .before .before .before), c .before .before .before .before .loop .inv .1 .long)
-
-over-requires : tie.Need-over-requires Inv-loop μ-loop
-over-requires c κs = search needs
-
-slice-write-line : tie.Need-slice-write-line Inv-loop μ-loop
-slice-write-line c = omega (arith, on-screen (c .before .before .before .before), c .before .before .before .before .before .loop .inv .1 .long)
-
-add-c : tie.Need-add-c Inv-loop μ-loop
-add-c c = omega (arith, on-screen (c .before .before .before .before))
-
-loop-less : tie.Need-loop-less Inv-loop μ-loop
-loop-less c = omega (arith, on-screen (c .before .before .before .before))
-
-loop-again : tie.Need-loop-again Inv-loop μ-loop
-loop-again c =
-    let i = c .before .before .before .before in
-    let h = i .before .loop in
-    let shown = rw (c .before .before .front .ensures, c .before .before .before .bit-at .ensures) at (c .over .ensures) in
-    let back : visible (h .c - 32) ≡ h .c = omega arith in
-    (omega arith, swept-more (c .over .result) (omega arith) (on-screen i) (rw back shown) (h .inv .1))
-
-same-length : tie.Need-same-length Inv-loop μ-loop
-same-length c = omega (arith, c .before .loop .inv .1 .long)
-
-returns : tie.Need-returns Inv-loop μ-loop
+returns : tie.Need-returns
 returns c =
-    let a = c .before .before .before .before .before .args in
-    let l = c .before .loop in
-    let keeps : (x : ℕ) → x < 256 → l .c ≤ visible x → (o : ℕ) → over (cond (hits (a .r) (a .s) (visible x)) (a .colour) 0) o ≡ o = λ x h above o. rw (hits-right (a .r) (a .s) (visible x) (omega (arith, c .before .before .before .end-visible .ensures, c .loop-test .left))) in
-    swept-all keeps (l .inv .1)
+    let s = c .before .before .before in
+    let a = s .args in
+    tabulated (s .pre) (λ x h. clear-column (hits (a .r) (a .s) (visible x)) (a .s .colour) (getD (a .line .now) x 0) (a .value) (c .if1 .taken))
+
+paint-bits-requires : tie.Need-paint-bits-requires
+paint-bits-requires c κs = search needs
+
+same-length : tie.Need-same-length
+same-length c = search needs
+
+returns-2 : tie.Need-returns-2
+returns-2 c =
+    let p = c .before .before in
+    let e = p .before .before in
+    let a = e .before .before .before .args in
+    p .paint-bits .ensures
+    ∙ tabulate-same 256 (λ x h. coloured-column (hits (a .r) (a .s) (visible x)) (a .s .colour) (getD (a .line .now) x 0) (a .value) (e .if1 .left))
 
 pub paint-sprite-spec : {M : Type 1} → statement M
-paint-sprite-spec =
-    tie.close
-    (tie.spec
-    Inv-loop
-    μ-loop
-    end-visible-requires
-    first-visible-requires
-    loop-holds
-    sub-x
-    bit-at-requires
-    front-requires
-    slice-read-over
-    over-requires
-    slice-write-line
-    add-c
-    loop-less
-    loop-again
-    same-length
-    returns)
+paint-sprite-spec = tie.close (tie.spec returns paint-bits-requires same-length returns-2)

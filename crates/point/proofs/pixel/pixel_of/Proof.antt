@@ -1,16 +1,16 @@
--- `colour_of` meets its contract.
+-- `pixel_of` meets its contract.
 use mathlib.Core.Path.{_≡_, sym, _∙_}
 use mathlib.Core.List.{[]}
 use Rattle.chip.specs.Modes.{modeOf}
 use Rattle.fetches.specs.Fetch.{value}
-use Rattle.planes.specs.Pixel.{pixelOf}
+use Rattle.planes.specs.Origin.{settle}
 use Rattle.planes.specs.Plane.{cellColour, cellHolding}
 use Rattle.sprites.specs.Scan.{scanOf}
 use Rattle.scanline.specs.Line.{noSprites, hasSprites, spritesOf}
-use Rattle.point.proofs.Laws.Point.{colour-over}
+use Rattle.point.proofs.Laws.Point.{pixel-over}
 use borrow.Author.Needs.{needs}
-use Rattle.point.proofs.colour.colour_of.Statement.{statement}
-use Rattle.point.proofs.colour.colour_of.Tie as tie
+use Rattle.point.proofs.pixel.pixel_of.Statement.{statement}
+use Rattle.point.proofs.pixel.pixel_of.Tie as tie
 
 -- the function's entry, seen from the test for sprites
 abbrev Args : tie.After-has-sprites → tie.Start
@@ -19,7 +19,7 @@ Args c = c .before .before .before .before
 shows : (c : tie.After-has-sprites) → c .has-sprites .result ≡ hasSprites (modeOf (Args c .args .r))
 shows c = rw (c .before .before .mode-of .ensures) at (c .has-sprites .ensures)
 
-plane : (c : tie.After-plane-at) → let a = c .before .before .before .args in c .plane-at .result ≡ pixelOf (a .r) [] (cellColour (modeOf (a .r)) (value (cellHolding (modeOf (a .r)) (a .r) (a .l) (a .x)) (a .vram .now)) (a .x))
+plane : (c : tie.After-plane-at) → let a = c .before .before .before .args in c .plane-at .result ≡ settle (a .r) [] (cellColour (modeOf (a .r)) (value (cellHolding (modeOf (a .r)) (a .r) (a .l) (a .x)) (a .vram .now)) (a .x))
 plane c = rw (c .before .mode-of .ensures) at (c .plane-at .ensures)
 
 mode-of-requires : tie.Need-mode-of-requires
@@ -39,7 +39,7 @@ returns c =
     let h = c .before .before in
     let a = Args h .args in
     let some : value (spritesOf (modeOf (a .r)) (a .r) (a .l)) (a .vram .now) ≡ value (scanOf (a .r) (a .l)) (a .vram .now) = rw (sym (shows h) ∙ c .before .if1 .taken) in
-    colour-over (a .r) (a .l) (a .x) (a .vram .now) some (rw (plane (h .before)) at (c .sprites-over .ensures))
+    pixel-over (a .r) (a .l) (a .x) (a .vram .now) some (rw (plane (h .before)) at (c .sprites-over .ensures))
 
 returns-2 : tie.Need-returns-2
 unfolding value
@@ -47,10 +47,10 @@ returns-2 c =
     let h = c .before in
     let a = Args h .args in
     let none : value (spritesOf (modeOf (a .r)) (a .r) (a .l)) (a .vram .now) ≡ noSprites = rw (sym (shows h) ∙ c .if1 .left) in
-    colour-over (a .r) (a .l) (a .x) (a .vram .now) none (plane (h .before))
+    pixel-over (a .r) (a .l) (a .x) (a .vram .now) none (plane (h .before))
 
-pub colour-of-spec : {M : Type 1} → statement M
-colour-of-spec =
+pub pixel-of-spec : {M : Type 1} → statement M
+pixel-of-spec =
     tie.close
     (tie.spec
     mode-of-requires
