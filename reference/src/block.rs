@@ -143,10 +143,23 @@ pub fn vdp_reset(block: &mut [u8]) -> u32 {
     over_block(block, &[], ports::reset)
 }
 
-pub fn vdp_draw_line(block: &mut [u8], vram: &[u8], line: &mut [u8], number: u32) -> u32 {
-    let lengths = [vram_length(vram), slice_length(line, LINE_BYTES)];
+pub fn vdp_draw_line(
+    block: &mut [u8],
+    vram: &[u8],
+    line: &mut [u8],
+    origins: &mut [u8],
+    number: u32,
+) -> u32 {
+    let lengths = [
+        vram_length(vram),
+        slice_length(line, LINE_BYTES),
+        slice_length(origins, LINE_BYTES),
+    ];
+    if planted(faults::ORIGINS_BEFORE_TESTED) {
+        origins.fill(0);
+    }
     over_block(block, &lengths, |state| {
-        frame::draw_line(state, vram, line, number)
+        frame::draw_line(state, vram, line, origins, number)
     })
 }
 
@@ -158,9 +171,17 @@ pub fn vdp_point(block: &mut [u8], vram: &[u8], line: u32, column: u32) -> u32 {
         Ok(state) => point::point(&state, vram, line, column),
     };
     if answer.refusal == 0 && planted(faults::POINT_DRAWS) {
-        vdp_draw_line(block, vram, &mut [0; LINE_BYTES], line);
+        let (colours, origins) = (&mut [0; LINE_BYTES], &mut [0; LINE_BYTES]);
+        vdp_draw_line(block, vram, colours, origins, line);
     }
     answer.number()
+}
+
+pub fn vdp_origin(block: &[u8], vram: &[u8], line: u32, column: u32) -> u32 {
+    match tested_state(block, &[vram_length(vram)]) {
+        Err(no) => no.number(),
+        Ok(state) => point::origin(&state, vram, line, column).number(),
+    }
 }
 
 /// The lengths that full draw and refresh test.

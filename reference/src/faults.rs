@@ -159,8 +159,25 @@ pub const LINE_TEXT_FROM_7: u32 = 73;
 /// but the first.
 pub const LINE_TEXT_BIT_6: u32 = 74;
 
+/// A sprite's origin is its place among the drawn ones.
+pub const PLACE_AS_NUMBER: u32 = 75;
+/// A sprite of colour 0 is an origin, of whatever shows through it.
+pub const UNCOLOURED_IS_ORIGIN: u32 = 76;
+/// The origins backdrop and black are exchanged.
+pub const BACKDROP_AND_BLACK: u32 = 77;
+/// The origins black and external are exchanged.
+pub const BLACK_AND_EXTERNAL: u32 = 78;
+/// The backdrop at Text's margins and on blank lines is the pattern plane's.
+pub const MARGIN_IS_PATTERN: u32 = 79;
+/// Origins are cleared before the tests, in a call that is refused too.
+pub const ORIGINS_BEFORE_TESTED: u32 = 80;
+/// A 0 bit in Text shows the backdrop.
+pub const TEXT_0_IS_BACKDROP: u32 = 81;
+/// Where coloured sprites overlap, the origin is the one behind the others.
+pub const HIDDEN_IS_ORIGIN: u32 = 82;
+
 /// The highest fault number.
-pub const LAST: u32 = 74;
+pub const LAST: u32 = 82;
 
 /// A few words for each fault, from 1 up.
 pub const NAMES: [&str; LAST as usize] = [
@@ -238,6 +255,25 @@ pub const NAMES: [&str; LAST as usize] = [
     "a line takes Text's cells as 7 wide",
     "a line counts Text's columns from 7",
     "a line counts Text's bits one too far",
+    "a sprite's origin is its place among the drawn",
+    "a sprite of colour 0 is an origin",
+    "the origins backdrop and black are exchanged",
+    "the origins black and external are exchanged",
+    "Text's margins and blank lines are the pattern plane's",
+    "origins are written by a refused call",
+    "a 0 bit in Text is the backdrop's",
+    "a hidden sprite is an origin",
+];
+
+/// The mistakes about a pixel's origin, which a line and a point both make.
+pub const OF_ORIGINS: [u32; 7] = [
+    PLACE_AS_NUMBER,
+    UNCOLOURED_IS_ORIGIN,
+    BACKDROP_AND_BLACK,
+    BLACK_AND_EXTERNAL,
+    MARGIN_IS_PATTERN,
+    TEXT_0_IS_BACKDROP,
+    HIDDEN_IS_ORIGIN,
 ];
 
 /// The ways to miscount Text's cells, for a point and for a line: 7 wide, from
@@ -254,9 +290,14 @@ pub fn plant(number: u32) {
     PLANTED.with(|cell| cell.set(number));
 }
 
+/// The planted fault, 0 for none.
+pub fn number() -> u32 {
+    PLANTED.with(|cell| cell.get())
+}
+
 /// Whether that fault is the planted one.
-pub fn planted(number: u32) -> bool {
-    PLANTED.with(|cell| cell.get() == number)
+pub fn planted(fault: u32) -> bool {
+    number() == fault
 }
 
 /// Where a column of Text lies under the planted one of these mistakes;

@@ -2,7 +2,7 @@
 
 use crate::faults::{self, planted};
 use crate::line::{
-    fetches, note_coincidence, note_fifth, picture, status_after, status_with_fifth,
+    fetches, note_coincidence, note_fifth, picture, status_after, status_with_fifth, Picture,
 };
 use crate::refusal::{self, refused, Answer};
 use crate::state::{
@@ -10,19 +10,28 @@ use crate::state::{
     VRAM_BYTES,
 };
 
-/// Draws one line into the lent 256 bytes and updates status from it.
-pub fn draw_line(state: &mut State, vram: &[u8], line: &mut [u8], number: u32) -> Answer {
+/// Draws one line into the lent 256 bytes, its origins into 256 more, and
+/// updates status from it.
+pub fn draw_line(
+    state: &mut State,
+    vram: &[u8],
+    line: &mut [u8],
+    origins: &mut [u8],
+    number: u32,
+) -> Answer {
     if let Some(no) = refused(&[
         (refusal::VRAM, vram.len() != VRAM_BYTES),
         (refusal::SLICE, line.len() != LINE_BYTES),
+        (refusal::SLICE, origins.len() != LINE_BYTES),
         (refusal::STATE, !state.is_well_formed()),
         (refusal::LINE, number > 191),
     ]) {
         return no;
     }
-    let (colours, note) = picture(state, vram, (number % 256) as u8);
-    line.copy_from_slice(&colours);
-    state.status = status_after(state.status, note);
+    let picture = picture(state, vram, (number % 256) as u8);
+    line.copy_from_slice(&picture.colours);
+    origins.copy_from_slice(&picture.origins);
+    state.status = status_after(state.status, picture.note);
     Answer::accepted(0)
 }
 
@@ -68,7 +77,7 @@ pub fn full_draw(
 
 /// Puts one line's colours and note in their places; gives the note.
 fn write_line(state: &State, vram: &[u8], frame: &mut [u8], notes: &mut [u8], number: usize) -> u8 {
-    let (colours, note) = picture(state, vram, number as u8);
+    let Picture { colours, note, .. } = picture(state, vram, number as u8);
     for (x, colour) in colours.into_iter().enumerate() {
         put_at(frame, 256 * number + x, colour);
     }

@@ -8,6 +8,7 @@ pub mod faults;
 pub mod frame;
 pub mod line;
 pub mod log;
+pub mod pixel;
 pub mod point;
 pub mod ports;
 pub mod refusal;
@@ -19,7 +20,7 @@ pub mod state;
 
 pub use frame::{draw_line, full_draw, refresh};
 pub use log::{read_log, run_log, write_log};
-pub use point::point;
+pub use point::{origin, point};
 pub use ports::{
     control_write, data_read, data_write, end_of_display, interrupt_line, power_up, reset,
     status_read,

@@ -1,9 +1,11 @@
-//! One line: its 256 colours, its note and the VRAM bytes it fetches.
+//! One line: its 256 colours and their origins, its note and the VRAM bytes it
+//! fetches.
 
 use std::collections::BTreeSet;
 use std::ops::RangeInclusive;
 
 use crate::faults::{self, miscounted, planted};
+use crate::pixel::{settle, text_colours, without_cell, Pixel};
 use crate::sprites::{self, Scan};
 use crate::state::{byte_at, State, C, F, FIFTH, FIFTH_NUMBER, LINE_BYTES};
 
@@ -90,13 +92,13 @@ fn graphics_two_offset(line: usize, name: usize) -> usize {
 /// The pattern plane's colour at a pixel; 0 where it shows nothing.
 fn pattern_colour(state: &State, vram: &[u8], mode: Mode, line: usize, x: usize) -> u8 {
     match mode {
-        Mode::Blank => 0,
-        Mode::Text if !(8..=247).contains(&x) => 0,
+        Mode::Blank => without_cell(state),
+        Mode::Text if !(8..=247).contains(&x) => without_cell(state),
         Mode::Text => {
             let (number, from_left) = text_cell(x);
             let cell = cell(state, vram, mode, line, number);
             let pattern = byte_at(vram, cell.pattern_at);
-            choose(pattern, from_left, state.registers[7])
+            choose(pattern, from_left, text_colours(state))
         }
         Mode::Multicolor => {
             let cell = cell(state, vram, mode, line, x / 8);
@@ -139,30 +141,39 @@ fn scan(state: &State, vram: &[u8], line: u8) -> Scan {
     }
 }
 
-/// Sprites before pattern before backdrop; black or, with external video on,
-/// 0 when there is no colour at all.
-fn pixel(state: &State, vram: &[u8], scan: &Scan, line: u8, x: usize) -> u8 {
-    let planes = [
-        sprites::colour_at(state, vram, &scan.drawn, x as i32),
+fn pixel(state: &State, vram: &[u8], scan: &Scan, line: u8, x: usize) -> Pixel {
+    settle(
+        sprites::here(state, vram, &scan.drawn, x as i32),
         pattern_colour(state, vram, mode(state), line.into(), x),
-        state.registers[7] % 16,
-    ];
-    let nothing = if state.has(0, 0x01) { 0 } else { 1 };
-    planes
-        .into_iter()
-        .find(|&colour| colour != 0)
-        .unwrap_or(nothing)
+        state.registers[7],
+        state.has(0, 0x01),
+    )
 }
 
-/// A line's 256 colours and its note.
-pub fn picture(state: &State, vram: &[u8], line: u8) -> ([u8; LINE_BYTES], u8) {
+/// What a line comes to.
+#[derive(Clone, Debug, PartialEq, Eq)]
+pub struct Picture {
+    pub colours: [u8; LINE_BYTES],
+    /// Where each colour came from.
+    pub origins: [u8; LINE_BYTES],
+    pub note: u8,
+}
+
+/// Draws a line, into no slice yet.
+pub fn picture(state: &State, vram: &[u8], line: u8) -> Picture {
     let scan = scan(state, vram, line);
-    let mut colours = [0; LINE_BYTES];
-    for (x, colour) in colours.iter_mut().enumerate() {
-        *colour = pixel(state, vram, &scan, line, x);
-    }
     let coincidence = sprites::coincidence(state, vram, &scan.drawn);
-    (colours, note(scan.fifth, coincidence))
+    let mut picture = Picture {
+        colours: [0; LINE_BYTES],
+        origins: [0; LINE_BYTES],
+        note: note(scan.fifth, coincidence),
+    };
+    let places = picture.colours.iter_mut().zip(&mut picture.origins);
+    for (x, (colour, origin)) in places.enumerate() {
+        let pixel = pixel(state, vram, &scan, line, x);
+        (*colour, *origin) = (pixel.colour, pixel.origin);
+    }
+    picture
 }
 
 /// Whether two sprites drawn on the line both have a 1 at one of these columns,

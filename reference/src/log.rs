@@ -257,7 +257,8 @@ fn single_call(
         CONTROL_WRITE => control_write(state, vram, value),
         DATA_READ => data_read(state, vram),
         STATUS_READ => status_read(state),
-        DRAW_LINE => draw_line(state, vram, line, value.into()),
+        // A run keeps to colours.
+        DRAW_LINE => draw_line(state, vram, line, &mut [0; LINE_BYTES], value.into()),
         END_OF_DISPLAY => end_of_display(state),
         RESET => reset(state),
         // Only a planted mistake lets another operation come here.

@@ -1,14 +1,27 @@
-//! The colour of one point: the cell that holds its column and the sprites of
-//! its line, byte by byte as they are fetched. No line is drawn for it, so that
-//! a drawn line is a second opinion.
+//! The colour and the origin of one point: the cell that holds its column and
+//! the sprites of its line, byte by byte as they are fetched. No line is drawn
+//! for it, so that a drawn line is a second opinion.
 
 use crate::faults::{self, miscounted, planted};
 use crate::line::{mode, Mode};
+use crate::pixel::{settle, text_colours, without_cell, Pixel, SpriteHere};
 use crate::refusal::{self, refused, Answer};
 use crate::state::{byte_at, State, LINES, LINE_BYTES, VRAM_BYTES};
 
 /// The colour at a line and column. Status stays as it was.
 pub fn point(state: &State, vram: &[u8], line: u32, column: u32) -> Answer {
+    let pixel = tested_pixel(state, vram, line, column);
+    pixel.map_or_else(|no| no, |pixel| Answer::accepted(pixel.colour))
+}
+
+/// Where the colour at a line and column came from, with the same tests.
+pub fn origin(state: &State, vram: &[u8], line: u32, column: u32) -> Answer {
+    let pixel = tested_pixel(state, vram, line, column);
+    pixel.map_or_else(|no| no, |pixel| Answer::accepted(pixel.origin))
+}
+
+/// The pixel at a line and column, or the first refusal.
+fn tested_pixel(state: &State, vram: &[u8], line: u32, column: u32) -> Result<Pixel, Answer> {
     let line_is_wrong = line_is_wrong(line);
     let column_is_wrong = column_is_wrong(column);
     let line_comes_later = column_is_wrong && planted(faults::COLUMN_TESTED_FIRST);
@@ -18,10 +31,9 @@ pub fn point(state: &State, vram: &[u8], line: u32, column: u32) -> Answer {
         (refusal::LINE, line_is_wrong && !line_comes_later),
         (refusal::COLUMN, column_is_wrong),
     ]) {
-        return no;
+        return Err(no);
     }
-    let planes = planes(state, vram, (line % 256) as u8, (column % 256) as u8);
-    Answer::accepted(front(state, planes))
+    Ok(look(state, vram, (line % 256) as u8, (column % 256) as u8).pixel)
 }
 
 fn line_is_wrong(line: u32) -> bool {
@@ -41,27 +53,20 @@ fn column_is_wrong(column: u32) -> bool {
     column >= LINE_BYTES as u32
 }
 
-/// The first plane that shows something. Where none does it is black or, with
-/// external video on, 0.
-fn front(state: &State, planes: [u8; 3]) -> u8 {
-    let external = state.has(0, 0x01) && !planted(faults::POINT_WITHOUT_EXTERNAL);
-    let nothing = if external { 0 } else { 1 };
-    planes
-        .into_iter()
-        .find(|&colour| colour != 0)
-        .unwrap_or(nothing)
+/// What is found at a point of the screen.
+#[derive(Clone, Debug, PartialEq, Eq)]
+pub struct Look {
+    pub pixel: Pixel,
+    /// The drawn sprites of its line, lowest number first.
+    pub sprites: Vec<SpriteHere>,
+    /// Every VRAM address whose byte the point depends on, in the order of
+    /// fetching: the cell's bytes, each Y, the drawn sprites' other bytes.
+    pub fetches: Vec<usize>,
 }
 
-/// What the sprites, the pattern plane and the backdrop show at a point of the
-/// screen, each 0 for nothing.
-pub fn planes(state: &State, vram: &[u8], line: u8, column: u8) -> [u8; 3] {
-    look(state, vram, line, column).0
-}
-
-/// Every VRAM address whose byte the point depends on, in the order of
-/// fetching: the cell's bytes, each Y, the drawn sprites' other bytes.
+/// The addresses alone.
 pub fn fetches(state: &State, vram: &[u8], line: u8, column: u8) -> Vec<usize> {
-    look(state, vram, line, column).1
+    look(state, vram, line, column).fetches
 }
 
 /// VRAM, and where each byte that was fetched from it is.
@@ -77,16 +82,26 @@ impl Fetching<'_> {
     }
 }
 
-fn look(state: &State, vram: &[u8], line: u8, column: u8) -> ([u8; 3], Vec<usize>) {
+/// Looks at a point of the screen.
+pub fn look(state: &State, vram: &[u8], line: u8, column: u8) -> Look {
     let (line, column) = (usize::from(line), usize::from(column));
     let mut from = Fetching {
         vram,
         addresses: Vec::new(),
     };
     let pattern = pattern_plane(state, &mut from, line, column);
-    let sprites = sprite_plane(state, &mut from, line, column);
-    let backdrop = state.registers[7] % 16;
-    ([sprites, pattern, backdrop], from.addresses)
+    let sprites = sprites_here(state, &mut from, line, column);
+    let is_external = state.has(0, 0x01) && !planted(faults::POINT_WITHOUT_EXTERNAL);
+    Look {
+        pixel: settle(
+            sprites.iter().copied(),
+            pattern,
+            state.registers[7],
+            is_external,
+        ),
+        sprites,
+        fetches: from.addresses,
+    }
 }
 
 /// The cell that holds a column, and how far into it the column is. Text has
@@ -112,11 +127,11 @@ fn cell(mode: Mode, column: usize) -> Option<(usize, usize)> {
     }
 }
 
-/// The colour that the one cell has at the column; 0 where there is no cell.
+/// The colour that the one cell has at the column.
 fn pattern_plane(state: &State, from: &mut Fetching, line: usize, column: usize) -> u8 {
     let mode = mode(state);
     let Some((cell, from_left)) = cell(mode, column) else {
-        return 0;
+        return without_cell(state);
     };
     let cells_to_a_row = if mode == Mode::Text { 40 } else { 32 };
     let name_at = state.register(2) * 1024 + line / 8 * cells_to_a_row + cell;
@@ -139,7 +154,7 @@ fn pattern_plane(state: &State, from: &mut Fetching, line: usize, column: usize)
         }
         Mode::Text => {
             let pattern = from.fetch(state.register(4) * 2048 + 8 * name + line % 8);
-            by_bit(pattern, from_left, state.registers[7])
+            by_bit(pattern, from_left, text_colours(state))
         }
     }
 }
@@ -153,15 +168,16 @@ fn by_bit(pattern: u8, from_left: usize, colours: u8) -> u8 {
     }
 }
 
-/// The colour that the line's sprites have at the column; 0 where none shows.
-/// All their bytes are fetched, wherever the sprites are.
-fn sprite_plane(state: &State, from: &mut Fetching, line: usize, column: usize) -> u8 {
+/// The line's drawn sprites at the column. All their bytes are fetched, wherever
+/// they are.
+fn sprites_here(state: &State, from: &mut Fetching, line: usize, column: usize) -> Vec<SpriteHere> {
+    let mut here = Vec::new();
     if matches!(mode(state), Mode::Text | Mode::Blank) {
-        return 0;
+        return here;
     }
-    let mut here: Vec<Option<u8>> = Vec::new();
-    for (attributes_at, row) in drawn(state, from, line) {
-        here.push(sprite_at(state, from, attributes_at, row, column));
+    for (number, row) in drawn(state, from, line) {
+        let colour = colour_of(state, from, number, row, column);
+        here.push(SpriteHere { number, colour });
     }
     if planted(faults::POINT_WITHOUT_FRONT) && !here.is_empty() {
         here.remove(0);
@@ -169,11 +185,11 @@ fn sprite_plane(state: &State, from: &mut Fetching, line: usize, column: usize) 
     if planted(faults::POINT_FROM_BEHIND) {
         here.reverse();
     }
-    let mut set = here.into_iter().flatten();
     if planted(faults::UNCOLOURED_HIDES) {
-        return set.next().unwrap_or(0);
+        here.retain(|sprite| sprite.colour.is_some());
+        here.truncate(1);
     }
-    set.find(|&colour| colour != 0).unwrap_or(0)
+    here
 }
 
 /// Columns, and lines, to a bit of a sprite's pattern.
@@ -185,9 +201,14 @@ fn scale(state: &State) -> usize {
     }
 }
 
-/// The sprites drawn on the line: where their attributes begin, and the row of
-/// their pattern. Of a fifth only Y is fetched, and of none after it.
-fn drawn(state: &State, from: &mut Fetching, line: usize) -> Vec<(usize, usize)> {
+/// Where a sprite's attributes begin.
+fn attributes_at(state: &State, number: u8) -> usize {
+    state.register(5) * 128 + 4 * usize::from(number)
+}
+
+/// The sprites drawn on the line: their numbers, and the row of their pattern.
+/// Of a fifth only Y is fetched, and of none after it.
+fn drawn(state: &State, from: &mut Fetching, line: usize) -> Vec<(u8, usize)> {
     let rows = if state.has(1, 0x02) { 16 } else { 8 };
     let most = if planted(faults::POINT_OF_FIFTH) {
         5
@@ -196,8 +217,7 @@ fn drawn(state: &State, from: &mut Fetching, line: usize) -> Vec<(usize, usize)>
     };
     let mut drawn = Vec::new();
     for number in 0..32 {
-        let attributes_at = state.register(5) * 128 + 4 * number;
-        let y = usize::from(from.fetch(attributes_at));
+        let y = usize::from(from.fetch(attributes_at(state, number)));
         // The line less Y less 1, round at 256.
         let row = (line + 255 - y) % 256 / scale(state);
         if y == 208 {
@@ -209,23 +229,24 @@ fn drawn(state: &State, from: &mut Fetching, line: usize) -> Vec<(usize, usize)>
         if drawn.len() == most {
             break;
         }
-        drawn.push((attributes_at, row));
+        drawn.push((number, row));
     }
     drawn
 }
 
 /// The colour of a drawn sprite where it has a 1 at the column, be it 0.
-fn sprite_at(
+fn colour_of(
     state: &State,
     from: &mut Fetching,
-    attributes_at: usize,
+    number: u8,
     row: usize,
     column: usize,
 ) -> Option<u8> {
     let before = from.addresses.len();
-    let x = usize::from(from.fetch(attributes_at + 1));
-    let name = usize::from(from.fetch(attributes_at + 2));
-    let colour_byte = from.fetch(attributes_at + 3);
+    let at = attributes_at(state, number);
+    let x = usize::from(from.fetch(at + 1));
+    let name = usize::from(from.fetch(at + 2));
+    let colour_byte = from.fetch(at + 3);
     let pattern = sprite_row(state, from, name, row);
     // The early clock moves the sprite 32 columns to the left.
     let early = if colour_byte & 0x80 != 0 { 32 } else { 0 };

@@ -2,7 +2,7 @@
 
 /// VRAM slice of wrong length.
 pub const VRAM: u8 = 1;
-/// Another slice of wrong length (line, map, frame, notes, block).
+/// Another slice of wrong length (line, origins, map, frame, notes, block).
 pub const SLICE: u8 = 2;
 /// Ill-formed state or block contents.
 pub const STATE: u8 = 3;
@@ -28,8 +28,8 @@ pub const ORDER: [u8; 10] = [
 
 /// What a call answers: its refusal number (0 when accepted) and a value.
 /// The value is the byte read, the interrupt line, the count of redrawn lines,
-/// the byte found by a run or a point's colour, and 0 where the call has none of
-/// these or is refused.
+/// the byte found by a run, a point's colour or its origin, and 0 where the call
+/// has none of these or is refused.
 #[derive(Clone, Copy, Debug, PartialEq, Eq)]
 pub struct Answer {
     pub refusal: u8,

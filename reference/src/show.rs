@@ -33,7 +33,13 @@ fn draw_ranges(state: &mut State, vram: &[u8]) -> Vec<Range> {
     let mut ranges: Vec<Range> = Vec::new();
     for number in 0..LINES {
         let mut colours = [0; LINE_BYTES];
-        draw_line(state, vram, &mut colours, number as u32);
+        draw_line(
+            state,
+            vram,
+            &mut colours,
+            &mut [0; LINE_BYTES],
+            number as u32,
+        );
         match ranges.last_mut() {
             Some(range) if range.colours == colours => range.last = number,
             _ => ranges.push(Range {

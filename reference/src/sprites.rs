@@ -3,6 +3,7 @@
 use std::ops::RangeInclusive;
 
 use crate::faults::{self, planted};
+use crate::pixel::SpriteHere;
 use crate::state::{byte_at, State};
 
 /// The Y that ends the list.
@@ -16,6 +17,8 @@ const LAST_COLUMN: i32 = 286;
 /// A sprite that is drawn on the line.
 #[derive(Clone, Copy, Debug)]
 pub struct Sprite {
+    /// Its number in the attribute table.
+    pub number: u8,
     /// Where its four attribute bytes begin.
     pub attributes_at: usize,
     /// Where its pattern byte for this line is.
@@ -123,6 +126,7 @@ fn sprite(state: &State, vram: &[u8], line: u8, number: u8) -> Sprite {
         row(state, line, byte_at(vram, at)),
     );
     Sprite {
+        number,
         attributes_at: at,
         left_at,
         right_at: is_large(state).then_some(left_at + 16),
@@ -176,14 +180,17 @@ pub fn has_bit(state: &State, vram: &[u8], sprite: &Sprite, x: i32) -> bool {
     half_at.map_or(false, |at| byte_at(vram, at) & (0x80 >> (column % 8)) != 0)
 }
 
-/// The colour of the first sprite that has one here, or 0.
-pub fn colour_at(state: &State, vram: &[u8], drawn: &[Sprite], x: i32) -> u8 {
-    for sprite in drawn {
-        if sprite.colour != 0 && has_bit(state, vram, sprite, x) {
-            return sprite.colour;
-        }
-    }
-    0
+/// The drawn sprites at this screen column.
+pub fn here<'a>(
+    state: &'a State,
+    vram: &'a [u8],
+    drawn: &'a [Sprite],
+    x: i32,
+) -> impl Iterator<Item = SpriteHere> + Clone + 'a {
+    drawn.iter().map(move |sprite| SpriteHere {
+        number: sprite.number,
+        colour: has_bit(state, vram, sprite, x).then_some(sprite.colour),
+    })
 }
 
 /// Whether two drawn sprites both have a 1 at some column that a sprite can

@@ -787,3 +787,120 @@ fn faults_69_to_74_counting_in_text() {
         shows(fault, text_twice, [right; 2], [right, wrong]);
     }
 }
+
+/// Colours and origins at columns of line 50: the drawn line's, and those of
+/// points, which make the same mistakes.
+fn with_origins<const N: usize>(lent: &mut Lent, columns: [usize; N]) -> [(u8, u8); N] {
+    lent.draw(50);
+    columns.map(|column| {
+        let drawn = (lent.line[column], lent.origins[column]);
+        let at = column as u32;
+        let asked = (lent.point(50, at), lent.origin(50, at));
+        assert_eq!(asked, (drawn.0.into(), drawn.1.into()));
+        drawn
+    })
+}
+
+/// Sprites 1 and 3 are the only ones on the line.
+#[test]
+fn fault_75_the_place_among_the_drawn() {
+    let elsewhere = [192, 0, FULL, 2];
+    let sprites = [elsewhere, [49, 10, FULL, 5], elsewhere, [49, 30, FULL, 7]];
+    let case = || with_origins(&mut board(0, &sprites), [10, 30]);
+    let fault = faults::PLACE_AS_NUMBER;
+    shows(fault, case, [(5, 1), (7, 3)], [(5, 0), (7, 1)]);
+}
+
+#[test]
+fn fault_76_a_sprite_of_colour_0() {
+    let mut sprites = OVERLAPPING;
+    sprites[0][3] = 0;
+    let case = || with_origins(&mut shapes_board(0, &sprites), [9, 10, 12, 18]);
+    let right = [(1, 34), (1, 34), (7, 1), (7, 1)];
+    let wrong = [(1, 34), (1, 0), (7, 0), (7, 1)];
+    shows(faults::UNCOLOURED_IS_ORIGIN, case, right, wrong);
+}
+
+#[test]
+fn faults_77_and_78_what_is_behind_all() {
+    let case = || {
+        let mut lent = board(0, &[]);
+        [(0, 4), (1, 4), (0, 0), (1, 0)].map(|(external, register_7)| {
+            (lent.block[0], lent.block[7]) = (external, register_7);
+            with_origins(&mut lent, [0])[0]
+        })
+    };
+    let right = [(4, 33), (4, 33), (1, 34), (0, 35)];
+    let wrong = [(4, 34), (4, 34), (1, 33), (0, 35)];
+    shows(faults::BACKDROP_AND_BLACK, case, right, wrong);
+    let wrong = [(4, 33), (4, 33), (1, 35), (0, 34)];
+    shows(faults::BLACK_AND_EXTERNAL, case, right, wrong);
+}
+
+/// Text whose cells begin with a 1 and a 0.
+fn text_bits(register_7: u8) -> Lent {
+    let mut lent = Lent::with_registers([0, 0x50, 2, 0, 0, 0, 0, register_7]);
+    lent.vram[0x0000..0x0008].fill(0x80);
+    lent
+}
+
+/// Without a backdrop the margin stays black.
+#[test]
+fn fault_79_margins_and_blank_lines() {
+    let fault = faults::MARGIN_IS_PATTERN;
+    let case = || with_origins(&mut text_bits(0xF4), [7, 8, 9]);
+    let (right, wrong) = ([(4, 33), (15, 32), (4, 32)], [(4, 32), (15, 32), (4, 32)]);
+    shows(fault, case, right, wrong);
+    let case = || with_origins(&mut text_bits(0xF0), [7, 8, 9]);
+    let right = [(1, 34), (15, 32), (1, 34)];
+    shows(fault, case, right, right);
+    let case = || {
+        let mut lent = text_bits(0xF4);
+        lent.block[1] = 0x10;
+        with_origins(&mut lent, [7, 8])
+    };
+    shows(fault, case, [(4, 33); 2], [(4, 32); 2]);
+}
+
+/// Each refusal of a drawn line, and an accepted one.
+#[test]
+fn fault_80_a_refused_call_writes() {
+    let case = || {
+        let harms: [fn(&mut Lent); 7] = [
+            |lent| lent.vram.truncate(16_383),
+            |lent| lent.block.truncate(16),
+            |lent| lent.line.truncate(255),
+            |lent| lent.origins.truncate(255),
+            |lent| lent.block[14] = 2,
+            |lent| lent.number = 192,
+            |_| (),
+        ];
+        harms.map(|harm| {
+            let mut lent = board(0, &[]);
+            lent.origins.fill(0xEE);
+            harm(&mut lent);
+            let answer = lent.draw(lent.number);
+            (answer / 256, lent.origins[0])
+        })
+    };
+    let numbers = [1, 2, 2, 2, 3, 4];
+    let with = |origin| {
+        let [a, b, c, d, e, f] = numbers.map(|number| (number, origin));
+        [a, b, c, d, e, f, (0, 34)]
+    };
+    shows(faults::ORIGINS_BEFORE_TESTED, case, with(0xEE), with(0));
+}
+
+#[test]
+fn fault_81_a_0_bit_in_text() {
+    let case = || with_origins(&mut text_bits(0xF4), [7, 8, 9]);
+    let (right, wrong) = ([(4, 33), (15, 32), (4, 32)], [(4, 33), (15, 32), (4, 33)]);
+    shows(faults::TEXT_0_IS_BACKDROP, case, right, wrong);
+}
+
+#[test]
+fn fault_82_the_sprite_behind() {
+    let case = || with_origins(&mut shapes_board(0, &OVERLAPPING), [10, 12, 18]);
+    let (right, wrong) = ([(5, 0), (5, 0), (7, 1)], [(5, 0), (5, 1), (7, 1)]);
+    shows(faults::HIDDEN_IS_ORIGIN, case, right, wrong);
+}

@@ -14,6 +14,7 @@ fn board() -> Lent {
         *byte = (at * 7 + at / 256) as u8;
     }
     lent.line.fill(0xEE);
+    lent.origins.fill(0xEE);
     lent
 }
 
@@ -397,6 +398,9 @@ fn the_same_calls_made_singly() {
         assert_eq!(lent.run(&records), done.unwrap_or((0, count, count)));
         alone.log = lent.log.clone();
         alone.outcome = lent.outcome.clone();
+        // A run has no slice for origins.
+        assert_eq!(lent.origins, vec![0xEE; 256]);
+        alone.origins.fill(0xEE);
         assert!(lent == alone);
     }
     assert!(ended.iter().all(|&count| count > 20), "{ended:?}");

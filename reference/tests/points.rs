@@ -1,12 +1,13 @@
 //! The colour of one point: refusals, points worked out by hand, the drawn line
-//! as a second opinion, and the bytes that a point depends on.
+//! as a second opinion, and the bytes that a point depends on. Its origin has the
+//! same refusals, and depends on the same bytes.
 
 mod common;
 
 use common::{shapes_board, sprite_board, Lent, Random, EARLY, FULL, LEFTMOST, RIGHTMOST};
 use reference::line;
-use reference::point::{fetches, point};
-use reference::State;
+use reference::point::{fetches, origin, point};
+use reference::{Answer, State};
 use std::collections::BTreeSet;
 
 /// What refusals a point has, in the order of their tests.
@@ -37,12 +38,17 @@ fn each_refusal_alone_and_each_two_in_order() {
             let (mut lent, line, column) = refusing(&[second, first]);
             let before = lent.clone();
             assert_eq!(lent.point(line, column), 256 * first);
+            assert_eq!(lent.origin(line, column), 256 * first);
             assert!(before == lent);
         }
     }
     let (mut lent, line, column) = refusing(&[]);
     assert_eq!(lent.point(line, column), 1);
+    assert_eq!(lent.origin(line, column), 34);
 }
+
+/// Colour or origin, without a block.
+type Asked = fn(&State, &[u8], u32, u32) -> Answer;
 
 #[test]
 fn a_direct_refusal() {
@@ -52,12 +58,14 @@ fn a_direct_refusal() {
         address: 16384,
         ..right
     };
-    let number = |state, vram, line, column| point(state, vram, line, column).number();
-    assert_eq!(number(&wrong, &[], 192, 256), 256);
-    assert_eq!(number(&wrong, &lent.vram, 192, 256), 3 * 256);
-    assert_eq!(number(&right, &lent.vram, 192, 256), 4 * 256);
-    assert_eq!(number(&right, &lent.vram, 191, 256), 13 * 256);
-    assert_eq!(number(&right, &lent.vram, 191, 255), 1);
+    for (call, accepted) in [(point as Asked, 1), (origin as Asked, 34)] {
+        let number = |state, vram, line, column| call(state, vram, line, column).number();
+        assert_eq!(number(&wrong, &[], 192, 256), 256);
+        assert_eq!(number(&wrong, &lent.vram, 192, 256), 3 * 256);
+        assert_eq!(number(&right, &lent.vram, 192, 256), 4 * 256);
+        assert_eq!(number(&right, &lent.vram, 191, 256), 13 * 256);
+        assert_eq!(number(&right, &lent.vram, 191, 255), accepted);
+    }
 }
 
 #[test]
@@ -408,14 +416,47 @@ fn a_point_is_that_column_of_the_drawn_line() {
         let mut lent = scene(&mut random, MODES[turn % 6]);
         for number in lines(&lent) {
             let status = lent.status();
-            let points: Vec<u8> = (0..256)
-                .map(|column| lent.point(number, column) as u8)
-                .collect();
+            let (points, origins): (Vec<u8>, Vec<u8>) = (0..256)
+                .map(|column| (lent.point(number, column), lent.origin(number, column)))
+                .map(|(colour, origin)| (colour as u8, origin as u8))
+                .unzip();
             assert_eq!(lent.status(), status);
             lent.draw(number);
             assert_eq!(points, lent.line, "turn {turn}, line {number}");
+            assert_eq!(origins, lent.origins, "turn {turn}, line {number}");
         }
     }
+}
+
+/// Each origin says which byte the colour is in, or that there is none.
+#[test]
+fn origins_fit_their_colours() {
+    let mut random = Random(0x0516_1145);
+    let mut seen = BTreeSet::new();
+    for turn in 0..300 {
+        let mut lent = scene(&mut random, MODES[turn % 6]);
+        if random.chance(2) {
+            lent.block[7] &= 0xF0;
+        }
+        let (backdrop, external) = (lent.block[7] % 16, lent.block[0] % 2 == 1);
+        for number in lines(&lent) {
+            lent.draw(number);
+            for (&colour, &origin) in lent.line.iter().zip(&lent.origins) {
+                let colour_at = usize::from(lent.block[5]) * 128 + 4 * usize::from(origin) + 3;
+                match origin {
+                    0..=31 => assert_eq!(colour, lent.vram[colour_at] % 16),
+                    32 => assert_ne!(colour, 0),
+                    33 => assert_eq!(colour, backdrop),
+                    34 => assert_eq!((colour, backdrop, external), (1, 0, false)),
+                    35 => assert_eq!((colour, backdrop, external), (0, 0, true)),
+                    _ => panic!("origin {origin}"),
+                }
+                assert_eq!(colour == 0, origin == 35);
+            }
+            seen.extend(lent.origins.iter().copied());
+        }
+    }
+    assert!(seen.into_iter().eq(0..36));
 }
 
 /// All the points of a line fetch what the line fetches, and no more.
@@ -450,10 +491,12 @@ fn a_point_depends_only_on_its_fetches() {
                     *byte ^= 1 + random.below(255) as u8;
                 }
             }
-            assert_eq!(
-                point(&state, &lent.vram, number, column.into()),
-                point(&state, &other, number, column.into())
-            );
+            for call in [point as Asked, origin] {
+                assert_eq!(
+                    call(&state, &lent.vram, number, column.into()),
+                    call(&state, &other, number, column.into())
+                );
+            }
             assert_eq!(fetched, fetches(&state, &other, number as u8, column));
         }
     }

@@ -18,6 +18,7 @@ enum Call {
     Reset,
     DrawLine,
     Point,
+    Origin,
     FullDraw,
     Refresh,
     ReadSnapshot,
@@ -29,7 +30,7 @@ enum Call {
 
 use Call::*;
 
-const CALLS: [Call; 17] = [
+const CALLS: [Call; 18] = [
     PowerUp,
     ControlWrite,
     DataWrite,
@@ -40,6 +41,7 @@ const CALLS: [Call; 17] = [
     Reset,
     DrawLine,
     Point,
+    Origin,
     FullDraw,
     Refresh,
     ReadSnapshot,
@@ -55,6 +57,7 @@ enum Harm {
     Vram,
     BlockLength,
     Line,
+    Origins,
     Map,
     Frame,
     Notes,
@@ -78,7 +81,7 @@ use Harm::*;
 fn refusal(harm: Harm) -> u32 {
     match harm {
         Vram => 1,
-        BlockLength | Line | Map | Frame | Notes | Outcome => 2,
+        BlockLength | Line | Origins | Map | Frame | Notes | Outcome => 2,
         Contents | SnapshotContents => 3,
         Number => 4,
         SnapshotLength => 5,
@@ -97,8 +100,8 @@ fn tested(call: Call) -> Vec<Harm> {
         ControlWrite | DataRead => vec![Vram, BlockLength, Contents],
         DataWrite => vec![Vram, BlockLength, Map, Contents],
         StatusRead | EndOfDisplay | InterruptLine | Reset => vec![BlockLength, Contents],
-        DrawLine => vec![Vram, BlockLength, Line, Contents, Number],
-        Point => vec![Vram, BlockLength, Contents, Number, Column],
+        DrawLine => vec![Vram, BlockLength, Line, Origins, Contents, Number],
+        Point | Origin => vec![Vram, BlockLength, Contents, Number, Column],
         FullDraw | Refresh => vec![Vram, BlockLength, Map, Frame, Notes, Contents],
         ReadSnapshot => vec![
             Vram,
@@ -257,6 +260,7 @@ fn harmed(harms: &[Harm], way: usize) -> Lent {
         (Vram, &mut lent.vram),
         (BlockLength, &mut lent.block),
         (Line, &mut lent.line),
+        (Origins, &mut lent.origins),
         (Map, &mut lent.map),
         (Frame, &mut lent.frame),
         (Notes, &mut lent.notes),
@@ -278,6 +282,7 @@ fn good() -> Lent {
     lent.frame.fill(0xEE);
     lent.notes.fill(0xEE);
     lent.line.fill(0xEE);
+    lent.origins.fill(0xEE);
     lent.number = 191;
     lent.column = 255;
     // Each operation, with every read as expected.
@@ -306,6 +311,7 @@ fn run(call: Call, lent: &mut Lent) -> u32 {
         Reset => vdp_reset(&mut lent.block),
         DrawLine => lent.draw(lent.number),
         Point => lent.point(lent.number, lent.column),
+        Origin => lent.origin(lent.number, lent.column),
         FullDraw => lent.full_draw(),
         Refresh => lent.refresh(),
         ReadSnapshot => lent.read_snapshot(),
@@ -327,8 +333,18 @@ fn run_direct(call: Call, state: &mut State, lent: &mut Lent) -> Answer {
         EndOfDisplay => end_of_display(state),
         InterruptLine => interrupt_line(state),
         Reset => reset(state),
-        DrawLine => draw_line(state, &lent.vram, &mut lent.line, lent.number),
+        DrawLine => {
+            let Lent {
+                vram,
+                line,
+                origins,
+                number,
+                ..
+            } = lent;
+            draw_line(state, vram, line, origins, *number)
+        }
         Point => point(state, &lent.vram, lent.number, lent.column),
+        Origin => origin(state, &lent.vram, lent.number, lent.column),
         FullDraw => {
             let Lent {
                 vram,

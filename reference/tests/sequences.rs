@@ -159,6 +159,7 @@ fn a_line_depends_only_on_its_fetches() {
         lent.draw(number);
         other.draw(number);
         assert_eq!(lent.line, other.line);
+        assert_eq!(lent.origins, other.origins);
         assert_eq!(lent.status(), other.status());
         assert_eq!(
             fetched,
@@ -184,7 +185,8 @@ fn no_input_panics() {
     for round in 0..300u32 {
         let mut block = slice(17);
         let (mut vram, mut map) = (slice(16384), slice(2048));
-        let (mut frame, mut notes, mut line) = (slice(49152), slice(192), slice(256));
+        let (mut frame, mut notes) = (slice(49152), slice(192));
+        let (mut line, mut origins) = (slice(256), slice(256));
         let mut snapshot = slice(16406);
         let (mut log, mut records, mut outcome) = (slice(44), slice(40), slice(4));
         let number = round.wrapping_mul(0x0101_0101);
@@ -194,8 +196,9 @@ fn no_input_panics() {
         vdp_control_write(&mut block, &vram, 7);
         vdp_data_write(&mut block, &mut vram, &mut map, 7);
         vdp_data_read(&mut block, &vram);
-        vdp_draw_line(&mut block, &vram, &mut line, number);
+        vdp_draw_line(&mut block, &vram, &mut line, &mut origins, number);
         vdp_point(&mut block, &vram, number, number / 7);
+        vdp_origin(&block, &vram, number, number / 7);
         vdp_refresh(&mut block, &vram, &mut map, &mut frame, &mut notes);
         vdp_full_draw(&mut block, &vram, &mut map, &mut frame, &mut notes);
         vdp_write_snapshot(&block, &vram, &mut snapshot);
@@ -301,12 +304,23 @@ fn point_calls(random: &mut Random) -> (Vec<u32>, Lent) {
             _ => random.below(256),
         };
         answers.push(lent.point(line, column));
+        answers.push(lent.origin(line, column));
         if line < 192 && column < 256 {
             let fetched = fetches(&lent.state(), &lent.vram, line as u8, column as u8);
             answers.extend(fetched.into_iter().map(|at| at as u32));
         }
     }
     (answers, lent)
+}
+
+/// Lines of a crowded screen, some beyond it, with what each leaves.
+fn line_calls(random: &mut Random) -> Vec<(Vec<u32>, Lent)> {
+    let mut lent = busy(random);
+    let calls = (0..6).map(|_| {
+        lent.origins.fill(0xEE);
+        (vec![lent.draw(random.below(240))], lent.clone())
+    });
+    calls.collect()
 }
 
 /// All that a list of calls with refreshes leaves and answers.
@@ -348,6 +362,7 @@ fn trace(seed: u64) -> Vec<(Vec<u32>, Lent)> {
         trace.push((vec![lent.full_draw()], lent));
         trace.push(port_calls(&mut random));
         trace.push(point_calls(&mut random));
+        trace.extend(line_calls(&mut random));
     }
     trace
 }

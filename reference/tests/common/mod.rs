@@ -13,6 +13,7 @@ pub struct Lent {
     pub frame: Vec<u8>,
     pub notes: Vec<u8>,
     pub line: Vec<u8>,
+    pub origins: Vec<u8>,
     pub number: u32,
     pub column: u32,
     pub snapshot: Vec<u8>,
@@ -31,6 +32,7 @@ impl Lent {
             frame: vec![0; 49152],
             notes: vec![0; 192],
             line: vec![0; 256],
+            origins: vec![0; 256],
             number: 0,
             column: 0,
             snapshot: vec![0; 16406],
@@ -98,11 +100,21 @@ impl Lent {
     }
 
     pub fn draw(&mut self, number: u32) -> u32 {
-        vdp_draw_line(&mut self.block, &self.vram, &mut self.line, number)
+        vdp_draw_line(
+            &mut self.block,
+            &self.vram,
+            &mut self.line,
+            &mut self.origins,
+            number,
+        )
     }
 
     pub fn point(&mut self, line: u32, column: u32) -> u32 {
         vdp_point(&mut self.block, &self.vram, line, column)
+    }
+
+    pub fn origin(&self, line: u32, column: u32) -> u32 {
+        vdp_origin(&self.block, &self.vram, line, column)
     }
 
     pub fn full_draw(&mut self) -> u32 {
