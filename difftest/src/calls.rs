@@ -17,17 +17,19 @@ pub enum Slice {
     Frame,
     Notes,
     Line,
+    Origins,
     Snapshot,
     Outcome,
 }
 
-pub const SLICES: [(Slice, &str, usize); 8] = [
+pub const SLICES: [(Slice, &str, usize); 9] = [
     (Slice::Block, "block", 17),
     (Slice::Vram, "VRAM", 16384),
     (Slice::Map, "map", 2048),
     (Slice::Frame, "frame", 49152),
     (Slice::Notes, "notes", 192),
     (Slice::Line, "line", 256),
+    (Slice::Origins, "origins", 256),
     (Slice::Snapshot, "snapshot", 16406),
     (Slice::Outcome, "outcome", 4),
 ];
@@ -52,6 +54,7 @@ pub enum Call {
     DrawLine(u32),
     /// Line and column.
     Point(u32, u32),
+    Origin(u32, u32),
     ReadSnapshot,
     WriteSnapshot,
     FullDraw,
@@ -64,7 +67,7 @@ pub enum Call {
     Replay(usize),
     /// The show program over the snapshot.
     Show,
-    /// Every point of a line, on copies of block and VRAM.
+    /// Every point of a line and its origin, on copies of block and VRAM.
     LinePoints(u32),
     /// The host sets the block's status.
     PutStatus(u8),
@@ -75,7 +78,7 @@ pub enum Call {
 }
 
 /// The calls by name, for counting.
-pub const NAMES: [&str; 17] = [
+pub const NAMES: [&str; 18] = [
     "power_up",
     "control_write",
     "data_write",
@@ -93,6 +96,7 @@ pub const NAMES: [&str; 17] = [
     "read_log",
     "write_log",
     "point",
+    "origin",
 ];
 
 /// The refusal numbers that calls have.
@@ -119,6 +123,7 @@ impl Call {
             Call::ReadLog(_) => Some(14),
             Call::WriteLog(_) => Some(15),
             Call::Point(..) => Some(16),
+            Call::Origin(..) => Some(17),
             Call::Replay(_) | Call::Show | Call::LinePoints(_) => None,
             Call::PutStatus(_) | Call::PutLost(_) | Call::PutSnapshot(..) => None,
         }
@@ -137,10 +142,11 @@ impl Call {
     /// The slices it is lent.
     pub fn lent(self) -> &'static [Slice] {
         match self {
-            Call::PowerUp | Call::ControlWrite(_) | Call::DataRead | Call::Point(..) => &[Slice::Block, Slice::Vram],
+            Call::PowerUp | Call::ControlWrite(_) | Call::DataRead => &[Slice::Block, Slice::Vram],
+            Call::Point(..) | Call::Origin(..) => &[Slice::Block, Slice::Vram],
             Call::DataWrite(_) => &[Slice::Block, Slice::Vram, Slice::Map],
             Call::StatusRead | Call::EndOfDisplay | Call::InterruptLine | Call::Reset => &[Slice::Block],
-            Call::DrawLine(_) => &[Slice::Block, Slice::Vram, Slice::Line],
+            Call::DrawLine(_) => &[Slice::Block, Slice::Vram, Slice::Line, Slice::Origins],
             Call::ReadSnapshot | Call::WriteSnapshot => &[Slice::Block, Slice::Vram, Slice::Snapshot],
             Call::FullDraw | Call::Refresh => &[Slice::Block, Slice::Vram, Slice::Map, Slice::Frame, Slice::Notes],
             Call::RunLog(_) => &[Slice::Block, Slice::Vram, Slice::Map, Slice::Line, Slice::Outcome],
@@ -198,12 +204,12 @@ impl std::fmt::Display for Step {
             }
             Call::Show => write!(f, "show")?,
             Call::Replay(log) => write!(f, "replay (log {log})")?,
-            Call::LinePoints(line) => write!(f, "vdp_point({line}, each column)")?,
+            Call::LinePoints(line) => write!(f, "vdp_point and vdp_origin({line}, each column)")?,
             call => {
                 let argument = match call {
                     Call::ControlWrite(byte) | Call::DataWrite(byte) => format!("{byte:02X}"),
                     Call::DrawLine(number) => number.to_string(),
-                    Call::Point(line, column) => format!("{line}, {column}"),
+                    Call::Point(line, column) | Call::Origin(line, column) => format!("{line}, {column}"),
                     Call::RunLog(log) | Call::ReadLog(log) | Call::WriteLog(log) => format!("log {log}"),
                     _ => String::new(),
                 };
@@ -220,7 +226,7 @@ impl std::fmt::Display for Step {
     }
 }
 
-/// A start and a list of calls with their logs. Frame, line and outcome start with foreign bytes.
+/// A start and a list of calls with their logs. Frame, line, origins and outcome start with foreign bytes.
 #[derive(Clone, Debug)]
 pub struct Case {
     pub block: Vec<u8>,
@@ -266,7 +272,7 @@ impl Side {
                 Slice::Vram => inner.copy_from_slice(&case.vram),
                 Slice::Map => inner.copy_from_slice(&case.map),
                 Slice::Notes => inner.copy_from_slice(&case.notes),
-                Slice::Frame | Slice::Line | Slice::Outcome => inner.fill(FOREIGN),
+                Slice::Frame | Slice::Line | Slice::Origins | Slice::Outcome => inner.fill(FOREIGN),
                 // A right one of the start.
                 Slice::Snapshot => {
                     (REFERENCE.write_snapshot)(&case.block, &case.vram, inner);
@@ -339,7 +345,8 @@ impl Side {
             .map(|(bytes, (slice, _, _))| &mut bytes[GUARD..GUARD + step.length(slice)]);
         let mut next = || lent.next().unwrap_or_default();
         let (block, vram, map, frame) = (next(), next(), next(), next());
-        let (notes, line, snapshot, outcome) = (next(), next(), next(), next());
+        let (notes, line, origins) = (next(), next(), next());
+        let (snapshot, outcome) = (next(), next());
         match step.call {
             Call::PowerUp => (calls.power_up)(block, vram),
             Call::ControlWrite(byte) => (calls.control_write)(block, vram, byte),
@@ -349,8 +356,9 @@ impl Side {
             Call::EndOfDisplay => (calls.end_of_display)(block),
             Call::InterruptLine => (calls.interrupt_line)(block),
             Call::Reset => (calls.reset)(block),
-            Call::DrawLine(number) => (calls.draw_line)(block, vram, line, number),
+            Call::DrawLine(number) => (calls.draw_line)(block, vram, line, origins, number),
             Call::Point(line, column) => (calls.point)(block, vram, line, column),
+            Call::Origin(line, column) => (calls.origin)(block, vram, line, column),
             Call::ReadSnapshot => (calls.read_snapshot)(block, vram, snapshot),
             Call::WriteSnapshot => (calls.write_snapshot)(block, vram, snapshot),
             Call::FullDraw => (calls.full_draw)(block, vram, map, frame, notes),

@@ -27,9 +27,19 @@ mod c {
             vram_len: usize,
             line: *mut u8,
             line_len: usize,
+            origins: *mut u8,
+            origins_len: usize,
             number: u32,
         ) -> u32;
         pub fn vdp_point(
+            block: *const u8,
+            block_len: usize,
+            vram: *const u8,
+            vram_len: usize,
+            line: u32,
+            column: u32,
+        ) -> u32;
+        pub fn vdp_origin(
             block: *const u8,
             block_len: usize,
             vram: *const u8,
@@ -97,6 +107,9 @@ mod c {
     }
 }
 
+/// A draw of a line: block, VRAM, line and origins, and its number.
+pub type DrawLine = fn(&mut [u8], &[u8], &mut [u8], &mut [u8], u32) -> u32;
+
 /// A draw of a whole picture: block, VRAM, map, frame and notes.
 pub type Draw = fn(&mut [u8], &[u8], &mut [u8], &mut [u8], &mut [u8]) -> u32;
 
@@ -112,9 +125,10 @@ pub struct Calls {
     pub status_read: fn(&mut [u8]) -> u32,
     pub end_of_display: fn(&mut [u8]) -> u32,
     pub interrupt_line: fn(&[u8]) -> u32,
-    pub draw_line: fn(&mut [u8], &[u8], &mut [u8], u32) -> u32,
+    pub draw_line: DrawLine,
     /// Only reads the block. A planted fault of the reference writes to it.
     pub point: fn(&mut [u8], &[u8], u32, u32) -> u32,
+    pub origin: fn(&[u8], &[u8], u32, u32) -> u32,
     pub full_draw: Draw,
     pub refresh: Draw,
     pub reset: fn(&mut [u8]) -> u32,
@@ -135,6 +149,7 @@ pub const REFERENCE: Calls = Calls {
     interrupt_line: second::vdp_interrupt_line,
     draw_line: second::vdp_draw_line,
     point: second::vdp_point,
+    origin: second::vdp_origin,
     full_draw: second::vdp_full_draw,
     refresh: second::vdp_refresh,
     reset: second::vdp_reset,
@@ -155,6 +170,7 @@ pub const LIBRARY: Calls = Calls {
     interrupt_line,
     draw_line,
     point,
+    origin,
     full_draw,
     refresh,
     reset,
@@ -206,7 +222,7 @@ fn interrupt_line(block: &[u8]) -> u32 {
     unsafe { c::vdp_interrupt_line(block.as_ptr(), block.len()) }
 }
 
-fn draw_line(block: &mut [u8], vram: &[u8], line: &mut [u8], number: u32) -> u32 {
+fn draw_line(block: &mut [u8], vram: &[u8], line: &mut [u8], origins: &mut [u8], number: u32) -> u32 {
     unsafe {
         c::vdp_draw_line(
             block.as_mut_ptr(),
@@ -215,6 +231,8 @@ fn draw_line(block: &mut [u8], vram: &[u8], line: &mut [u8], number: u32) -> u32
             vram.len(),
             line.as_mut_ptr(),
             line.len(),
+            origins.as_mut_ptr(),
+            origins.len(),
             number,
         )
     }
@@ -222,6 +240,10 @@ fn draw_line(block: &mut [u8], vram: &[u8], line: &mut [u8], number: u32) -> u32
 
 fn point(block: &mut [u8], vram: &[u8], line: u32, column: u32) -> u32 {
     unsafe { c::vdp_point(block.as_ptr(), block.len(), vram.as_ptr(), vram.len(), line, column) }
+}
+
+fn origin(block: &[u8], vram: &[u8], line: u32, column: u32) -> u32 {
+    unsafe { c::vdp_origin(block.as_ptr(), block.len(), vram.as_ptr(), vram.len(), line, column) }
 }
 
 fn full_draw(block: &mut [u8], vram: &[u8], map: &mut [u8], frame: &mut [u8], notes: &mut [u8]) -> u32 {

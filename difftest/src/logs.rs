@@ -151,7 +151,8 @@ impl Host {
             1 => (calls.control_write)(block, vram, value),
             2 => (calls.data_read)(block, vram),
             3 => (calls.status_read)(block),
-            4 => (calls.draw_line)(block, vram, line, value.into()),
+            // A run has no slice for origins.
+            4 => (calls.draw_line)(block, vram, line, &mut [0; 256], value.into()),
             5 => (calls.end_of_display)(block),
             6 => (calls.reset)(block),
             _ => 0,

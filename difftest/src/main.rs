@@ -2,14 +2,14 @@
 //!
 //! Compares N states, from the first on, a fourth as many cases of points, and a tenth as many lists of calls
 //! and cases of logs; without --cases a fixed number, and no more than two minutes. Before them come meetings
-//! of sprites, the same in every run. --faults plants each of the reference's faults in turn and wants it
-//! found; --gate does both.
+//! of sprites and calls that are refused, the same in every run. --faults plants each of the reference's faults
+//! in turn and wants it found; --gate does both.
 
 use difftest::calls::{run, Case, Lost, Reached, BLOCKS, DROPPING, HIDDEN, LENGTHS, LOST_FROM, NAMES, REFUSED};
 use difftest::lists::{list_case, log_case, place, state_case};
-use difftest::points::{self, Counts, PLACES, SHOWN};
+use difftest::points::{self, Counts};
 use difftest::scenes::{KINDS, MODES};
-use difftest::{meetings, shrink};
+use difftest::{meetings, refusals, shrink};
 use reference::faults;
 use std::time::{Duration, Instant};
 
@@ -75,10 +75,11 @@ fn options() -> Result<Options, String> {
     Ok(options)
 }
 
-/// A state, a list, a case of points or logs, or a meeting of sprites by its number.
+/// A state, a list, a case of points, logs or refusals, or a meeting of sprites by its number.
 #[derive(Clone, Copy)]
 enum Numbered {
     Meeting(u64),
+    Refusals(u64),
     State(u64),
     Points(u64),
     Logs(u64),
@@ -89,6 +90,7 @@ impl Numbered {
     fn case(self, seed: u64) -> Case {
         match self {
             Numbered::Meeting(number) => meetings::case(number),
+            Numbered::Refusals(number) => refusals::case(number),
             Numbered::State(number) => state_case(seed, number),
             Numbered::Points(number) => points::case(seed, number),
             Numbered::Logs(number) => log_case(seed, number),
@@ -97,10 +99,10 @@ impl Numbered {
     }
 
     /// The words that run it again; points come after their four states, logs and a list after their ten, and all
-    /// meetings come first.
+    /// meetings and refusals come first.
     fn alone(self, seed: u64) -> String {
         let first = match self {
-            Numbered::Meeting(_) => return "--cases 0".to_string(),
+            Numbered::Meeting(_) | Numbered::Refusals(_) => return "--cases 0".to_string(),
             Numbered::State(number) => number,
             Numbered::Points(number) => 4 * number + 3,
             Numbered::Logs(number) | Numbered::List(number) => 10 * number + 9,
@@ -113,6 +115,7 @@ impl std::fmt::Display for Numbered {
     fn fmt(&self, f: &mut std::fmt::Formatter<'_>) -> std::fmt::Result {
         match *self {
             Numbered::Meeting(number) => write!(f, "meeting {number} ({})", meetings::name(number)),
+            Numbered::Refusals(number) => write!(f, "refusals {number} ({})", refusals::name(number)),
             Numbered::State(number) => {
                 let (mode, kind) = place(number);
                 write!(f, "state {number} ({}, {})", MODES[mode], KINDS[kind])
@@ -124,9 +127,14 @@ impl std::fmt::Display for Numbered {
     }
 }
 
-/// The cases that every run has.
-fn fixed() -> impl Iterator<Item = Numbered> {
+// The cases that every run has.
+
+fn all_meetings() -> impl Iterator<Item = Numbered> {
     (0..meetings::count()).map(Numbered::Meeting)
+}
+
+fn all_refusals() -> impl Iterator<Item = Numbered> {
+    (0..refusals::count()).map(Numbered::Refusals)
 }
 
 /// The random ones, in order: points after every four states, logs and a list after every ten.
@@ -144,6 +152,7 @@ fn random(options: &Options) -> impl Iterator<Item = Numbered> {
 #[derive(Default)]
 struct Compared {
     meetings: u64,
+    refusals: u64,
     /// What the meetings have reached of HIDDEN.
     hidden: [u64; HIDDEN.len()],
     states: [u64; MODES.len()],
@@ -156,6 +165,7 @@ impl Compared {
     fn count(&mut self, numbered: Numbered) {
         match numbered {
             Numbered::Meeting(_) => self.meetings += 1,
+            Numbered::Refusals(_) => self.refusals += 1,
             Numbered::State(number) => self.states[place(number).0] += 1,
             Numbered::Points(_) => self.points += 1,
             Numbered::Logs(_) => self.logs += 1,
@@ -168,7 +178,7 @@ fn compare(options: &Options, passed: &mut u64, failed: &mut u64) {
     let (mut compared, mut reached) = (Compared::default(), Reached::default());
     let start = Instant::now();
     let mut whole = true;
-    for numbered in fixed().chain(random(options)) {
+    for numbered in all_meetings().chain(all_refusals()).chain(random(options)) {
         if options.limit.map_or(false, |limit| start.elapsed() > limit) {
             println!("stopped at {numbered}: {} seconds are over", LIMIT.as_secs());
             whole = false;
@@ -244,8 +254,8 @@ fn hex(bytes: &[u8]) -> String {
 fn summary(options: &Options, compared: &Compared, reached: &Reached) {
     let states: u64 = compared.states.iter().sum();
     println!(
-        "seed {}, {} meetings of sprites, {states} states, {} lists, {} cases of logs, {} of points",
-        options.seed, compared.meetings, compared.lists, compared.logs, compared.points
+        "seed {}, {} meetings of sprites, {states} states, {} lists, {} cases of logs, {} of points, {} of refusals",
+        options.seed, compared.meetings, compared.lists, compared.logs, compared.points, compared.refusals
     );
     let modes: Vec<String> = MODES
         .iter()
@@ -292,10 +302,10 @@ fn summary(options: &Options, compared: &Compared, reached: &Reached) {
     println!("logs read and written back: {read}, written and read back: {written}");
     println!("replays: {accepted}, and {refused} refused; show's texts: {}", reached.shown);
     for (who, counts) in points_by_whom(reached) {
-        let counts: Vec<String> = each_point(counts)
-            .map(|(what, count)| format!("{what} {count}"))
-            .collect();
-        println!("points {who}: {}", counts.join(", "));
+        for (place, counts) in counts.each() {
+            let counts: Vec<String> = counts.iter().map(|(what, count)| format!("{what} {count}")).collect();
+            println!("points {who}, {place}: {}", counts.join(", "));
+        }
     }
 }
 
@@ -305,12 +315,6 @@ fn points_by_whom(reached: &Reached) -> [(&'static str, Counts); 2] {
         ("alone", reached.points.single),
         ("of whole lines", reached.points.of_lines),
     ]
-}
-
-/// Where points are and what they show, and how often.
-fn each_point(counts: Counts) -> impl Iterator<Item = (&'static str, u64)> {
-    let places = PLACES.into_iter().zip(counts.places);
-    places.chain(SHOWN.into_iter().zip(counts.shown))
 }
 
 fn print_lost(reached: &Reached) {
@@ -346,6 +350,7 @@ const REFUSALS: [&[usize]; NAMES.len()] = [
     &[0, 1, 2, 3, 8, 9],
     &[0, 8, 9],
     &[0, 8, 9],
+    &[0, 1, 2, 3, 4, 13],
     &[0, 1, 2, 3, 4, 13],
 ];
 
@@ -417,8 +422,10 @@ fn missed(compared: &Compared, reached: &Reached) -> Vec<String> {
         missed.push(format!("a refused block of {length} bytes"));
     }
     for (who, counts) in points_by_whom(reached) {
-        for (what, _) in each_point(counts).filter(|&(_, count)| count == 0) {
-            missed.push(format!("points {who}: {what}"));
+        for (place, counts) in counts.each() {
+            for (what, _) in counts.into_iter().filter(|&(_, count)| count == 0) {
+                missed.push(format!("points {who}, {place}: {what}"));
+            }
         }
     }
     for (operation, _) in reached.operations.iter().enumerate().filter(|&(_, &count)| count == 0) {
@@ -434,16 +441,21 @@ fn plant_all(options: &Options, passed: &mut u64, failed: &mut u64) {
     let hidden = faults::ONLY_VISIBLE_COINCIDE..=faults::LAST_COLUMNS_FORGOTTEN;
     let of_points = faults::POINT_OF_NEIGHBOUR..=faults::POINT_TEXT_BIT_6;
     for number in 1..=faults::LAST {
-        if of_points.contains(&number) {
-            let points = random(options).filter(|numbered| matches!(numbered, Numbered::Points(_)));
-            let among = format!("{} cases of points", options.cases / 4);
-            plant(number, points, &among, options, passed, failed);
-        } else if !outermost.contains(&number) {
+        if !of_points.contains(&number) && !outermost.contains(&number) {
             let among = format!("{} states, their points, logs and lists", options.cases);
             plant(number, random(options), &among, options, passed, failed);
         }
+        // Lines and points share the mistakes about origins, and the states have drawn lines only.
+        if of_points.contains(&number) || faults::OF_ORIGINS.contains(&number) {
+            let points = random(options).filter(|numbered| matches!(numbered, Numbered::Points(_)));
+            let among = format!("{} cases of points", options.cases / 4);
+            plant(number, points, &among, options, passed, failed);
+        }
         if hidden.contains(&number) {
-            plant(number, fixed(), "the meetings", options, passed, failed);
+            plant(number, all_meetings(), "the meetings", options, passed, failed);
+        }
+        if number == faults::ORIGINS_BEFORE_TESTED {
+            plant(number, all_refusals(), "the refusals", options, passed, failed);
         }
     }
 }
