@@ -7,9 +7,9 @@
  * The host owns the chip's bytes and the picture's and lends them to each call.
  *
  * 1. Power-up, the driver's opening sequence, and a full draw.
- * 2. An interrupt, in which the driver moves a sprite and writes a name. The bench's pointer finds the new colour before
- *    anything is drawn. A refresh redraws the lines that this touches; a full draw into a second picture has to give the
- *    same.
+ * 2. An interrupt, in which the driver moves a sprite and writes a name. The bench's pointer finds the new colour, and what
+ *    it comes from, before anything is drawn. A refresh redraws the lines that this touches; a full draw into a second
+ *    picture has to give the same.
  * 3. The driver scrolls, and the picture is held against the wanted one. A driver that leaves an old row standing
  *    is caught.
  * 4. An interrupt comes while the driver writes a pair of control bytes. A driver that does not hold it off until the
@@ -224,6 +224,26 @@ static int colour_at(const struct chip *c, int line, int column)
     return value(vdp_point(c->block, sizeof c->block, c->vram, sizeof c->vram, (uint32_t)line, (uint32_t)column));
 }
 
+/* What the colour under the pointer comes from: the table or the register that the driver has to look at. */
+static const char *origin_at(const struct chip *c, int line, int column)
+{
+    static char sprite[16];
+    int origin = value(vdp_origin(c->block, sizeof c->block, c->vram, sizeof c->vram, (uint32_t)line, (uint32_t)column));
+    switch (origin) {
+    case VDP_ORIGIN_PATTERN:
+        return "the pattern plane";
+    case VDP_ORIGIN_BACKDROP:
+        return "the backdrop";
+    case VDP_ORIGIN_BLACK:
+        return "no plane: black by default";
+    case VDP_ORIGIN_EXTERNAL:
+        return "external video";
+    default:
+        snprintf(sprite, sizeof sprite, "sprite %d", origin);
+        return sprite;
+    }
+}
+
 /* Draws every line. */
 static void full_draw(struct chip *c, struct picture *p)
 {
@@ -325,12 +345,13 @@ int main(void)
     power_up(&bench);
     open_screen(&bench);
     full_draw(&bench, &shown);
-    printf("opening: line 80, column 100 has colour %d\n", shown.frame[PIXELS * 80 + 100]);
+    printf("opening: line 80, column 100 has colour %d, from %s\n", shown.frame[PIXELS * 80 + 100],
+           origin_at(&bench, 80, 100));
 
     end_of_display(&bench);
     take_interrupt(&bench);
-    printf("interrupt: line 80, column 100 has colour %d in the picture, the pointer finds %d\n",
-           shown.frame[PIXELS * 80 + 100], colour_at(&bench, 80, 100));
+    printf("interrupt: line 80, column 100 has colour %d in the picture, the pointer finds %d, from %s\n",
+           shown.frame[PIXELS * 80 + 100], colour_at(&bench, 80, 100), origin_at(&bench, 80, 100));
     printf("interrupt: refresh redrew %d lines\n", refresh(&bench, &shown));
     if (shown.frame[PIXELS * 80 + 100] != colour_at(&bench, 80, 100))
         trouble = 1;

@@ -2,10 +2,10 @@
  *
  * The caller owns every byte. A call on the chip finds its state in a block of 17 bytes; reading and writing a log's
  * records needs none. Each call answers a number of two parts: its refusal number times 256, and below that what it
- * has to tell: a byte that was read, 1 for an interrupt line that is on, a point's colour, the count of lines that a
- * refresh redrew, the byte that a log's run found in place of the expected one, and 0 otherwise. A call that is refused
- * leaves block and slices as they were. Slices of one call do not overlap, and no pointer is null, also where a length
- * is 0. */
+ * has to tell: a byte that was read, 1 for an interrupt line that is on, a point's colour or its origin, the count of
+ * lines that a refresh redrew, the byte that a log's run found in place of the expected one, and 0 otherwise. A call that
+ * is refused leaves block and slices as they were. Slices of one call do not overlap, and no pointer is null, also where a
+ * length is 0. */
 #ifndef BIRDCLEFT_H
 #define BIRDCLEFT_H
 
@@ -22,6 +22,7 @@ enum {
     VDP_VRAM_SIZE = 16384,
     VDP_MAP_SIZE = 2048,
     VDP_LINE_SIZE = 256,
+    VDP_ORIGINS_SIZE = 256,
     VDP_FRAME_SIZE = 49152,
     VDP_NOTES_SIZE = 192,
     VDP_SNAPSHOT_SIZE = 16406,
@@ -53,6 +54,16 @@ enum {
     VDP_LOG_FORM = 8,        /* log or record bytes of wrong length, or the log's trailer wrong */
     VDP_LOG_RECORD = 9,      /* a record that is not allowed: its operation, or its value for that operation */
     VDP_COLUMN_NUMBER = 13   /* column above 255 */
+};
+
+/* Origins: what gave a pixel its colour, one code each. 0 to 31 are the sprites, by their numbers in the attribute table;
+ * a sprite of colour 0 does not show and is no origin. The last three are for pixels where neither sprite nor pattern
+ * shows, as in Text's margins and while the display is off. */
+enum {
+    VDP_ORIGIN_PATTERN = 32,  /* the pattern plane; in Text also a 0 bit, whose colour is that of the backdrop */
+    VDP_ORIGIN_BACKDROP = 33, /* the backdrop: register 7's low nibble is not 0 */
+    VDP_ORIGIN_BLACK = 34,    /* black by default, colour 1: that nibble is 0 and external video is off */
+    VDP_ORIGIN_EXTERNAL = 35  /* external video, colour 0: that nibble is 0 and external video is on */
 };
 
 /* The parts of an answer. */
@@ -104,16 +115,20 @@ uint32_t vdp_end_of_display(uint8_t *block, size_t block_len);
 /* Whether the interrupt line is on: the frame flag is, and register 1 has hex 20. */
 uint32_t vdp_interrupt_line(const uint8_t *block, size_t block_len);
 
-/* Draws line number 0 to 191 into 256 bytes, one colour (0 to 15) each. The line's note (below) updates status: a
- * fifth sprite sets hex 40 and puts its number into the low five bits, unless hex 40 or 80 is set already;
- * coincidence sets hex 20. Two of the line's first four sprites coincide where set bits share a column, on the
- * screen or beside it, whatever their colours. Map, redraw mark and any frame stay as they are. */
-uint32_t vdp_draw_line(uint8_t *block, size_t block_len, const uint8_t *vram, size_t vram_len, uint8_t *line, size_t line_len, uint32_t number);
+/* Draws line number 0 to 191 into 256 bytes, one colour (0 to 15) each, and the origin of each into 256 others. The
+ * line's note (below) updates status: a fifth sprite sets hex 40 and puts its number into the low five bits, unless
+ * hex 40 or 80 is set already; coincidence sets hex 20. Two of the line's first four sprites coincide where set bits
+ * share a column, on the screen or beside it, whatever their colours. Map, redraw mark and any frame stay as they are. */
+uint32_t vdp_draw_line(uint8_t *block, size_t block_len, const uint8_t *vram, size_t vram_len, uint8_t *line, size_t line_len, uint8_t *origins, size_t origins_len, uint32_t number);
 
 /* The colour (0 to 15) of the point at line 0 to 191 and column 0 to 255: the byte that drawing this line would put
  * there. Nothing is drawn, and status stays as it is. Of VRAM it needs the cell that the point lies in and what the
  * line's sprites fetch, and no other byte. */
 uint32_t vdp_point(const uint8_t *block, size_t block_len, const uint8_t *vram, size_t vram_len, uint32_t line, uint32_t column);
+
+/* The origin of that point's colour, by the same tests and from the same bytes. A refused call has 0 below the refusal
+ * number, as an accepted one has for sprite 0: the refusal number decides. */
+uint32_t vdp_origin(const uint8_t *block, size_t block_len, const uint8_t *vram, size_t vram_len, uint32_t line, uint32_t column);
 
 /* A frame has lines 0 to 191 end to end. Each line has a note: the number of its fifth sprite, or 32 if
  * there is none, plus 64 if sprites coincide.
@@ -172,9 +187,9 @@ enum {
  * differed, counted from 0; without one, the number of records. */
 
 /* Makes the calls of a log in order, with the effect that each has when it is made alone; a drawn line goes into the line
- * slice, which keeps what it holds where no line is drawn. The whole log is tested before the first record. The run ends
- * behind the last record, or behind the first read that gives another byte than the expected one: that read is done, no
- * record after it is, and the byte that it gave is answered. */
+ * slice, which keeps what it holds where no line is drawn. There is no slice for origins. The whole log is tested before
+ * the first record. The run ends behind the last record, or behind the first read that gives another byte than the
+ * expected one: that read is done, no record after it is, and the byte that it gave is answered. */
 uint32_t vdp_run_log(uint8_t *block, size_t block_len, uint8_t *vram, size_t vram_len, uint8_t *map, size_t map_len, uint8_t *line, size_t line_len, const uint8_t *log, size_t log_len, uint8_t *outcome, size_t outcome_len);
 
 /* The record bytes of a log, into a slice that is 4 bytes shorter. */

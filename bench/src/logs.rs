@@ -1,44 +1,14 @@
 //! The run of a log, beside the same calls made singly.
 
+use crate::c;
 use crate::pictures::{picture, Picture};
 
 pub const RECORDS: usize = 20_000;
-
-/// Straight from the library, as a host in C calls it.
-mod c {
-    extern "C" {
-        pub fn vdp_control_write(block: *mut u8, block_len: usize, vram: *const u8, vram_len: usize, byte: u8) -> u32;
-        pub fn vdp_data_write(
-            block: *mut u8,
-            block_len: usize,
-            vram: *mut u8,
-            vram_len: usize,
-            map: *mut u8,
-            map_len: usize,
-            byte: u8,
-        ) -> u32;
-        pub fn vdp_run_log(
-            block: *mut u8,
-            block_len: usize,
-            vram: *mut u8,
-            vram_len: usize,
-            map: *mut u8,
-            map_len: usize,
-            line: *mut u8,
-            line_len: usize,
-            log: *const u8,
-            log_len: usize,
-            outcome: *mut u8,
-            outcome_len: usize,
-        ) -> u32;
-    }
-}
 
 /// What a log is run on.
 pub struct Bench {
     lent: Picture,
     line: [u8; 256],
-    outcome: [u8; 4],
     log: Vec<u8>,
 }
 
@@ -58,23 +28,32 @@ fn control_writes() -> Bench {
 }
 
 fn bench(records: impl Iterator<Item = u8>) -> Bench {
-    let mut log: Vec<u8> = records.collect();
-    let sum = log.iter().fold(0u16, |sum, byte| sum.wrapping_add(u16::from(*byte)));
-    log.extend(((2 * RECORDS) as u16).to_le_bytes());
-    log.extend(sum.to_le_bytes());
     Bench {
         lent: picture(0, 0),
         line: [0; 256],
-        outcome: [0; 4],
-        log,
+        log: log_of(records),
     }
+}
+
+/// Record bytes and their trailer.
+pub fn log_of(records: impl Iterator<Item = u8>) -> Vec<u8> {
+    let mut log: Vec<u8> = records.collect();
+    let sum = log.iter().fold(0u16, |sum, byte| sum.wrapping_add(u16::from(*byte)));
+    log.extend((log.len() as u16).to_le_bytes());
+    log.extend(sum.to_le_bytes());
+    log
 }
 
 // Safety, for every call below: each pointer comes with its slice's length, and the slices lie apart.
 
-/// The whole log.
 pub fn run(on: &mut Bench) {
-    let Picture { block, vram, map, .. } = &mut on.lent;
+    run_whole(&mut on.lent, &mut on.line, &on.log);
+}
+
+/// A log without reads, so that every record is done.
+pub fn run_whole(lent: &mut Picture, line: &mut [u8], log: &[u8]) {
+    let Picture { block, vram, map, .. } = lent;
+    let mut outcome = [0; 4];
     let answer = unsafe {
         c::vdp_run_log(
             block.as_mut_ptr(),
@@ -83,16 +62,16 @@ pub fn run(on: &mut Bench) {
             vram.len(),
             map.as_mut_ptr(),
             map.len(),
-            on.line.as_mut_ptr(),
-            on.line.len(),
-            on.log.as_ptr(),
-            on.log.len(),
-            on.outcome.as_mut_ptr(),
-            on.outcome.len(),
+            line.as_mut_ptr(),
+            line.len(),
+            log.as_ptr(),
+            log.len(),
+            outcome.as_mut_ptr(),
+            outcome.len(),
         )
     };
     assert_eq!(answer, 0);
-    assert_eq!(on.outcome[..2], (RECORDS as u16).to_le_bytes());
+    assert_eq!(outcome[..2], ((log.len() / 2 - 2) as u16).to_le_bytes());
 }
 
 fn write_singly(on: &mut Bench) {

@@ -1,6 +1,8 @@
 //! How fast the library is, in multiples of filling a frame with memset. All in one run; best and
 //! median of many.
 
+mod c;
+mod lines;
 mod logs;
 mod pictures;
 mod points;
@@ -10,11 +12,12 @@ use difftest::library::{Calls, LIBRARY, REFERENCE};
 use difftest::show;
 use logs::{LOGS, RECORDS};
 use pictures::{picture, Picture, CHANGES, MODES, SPRITES};
-use points::{LINES, POINTS, READS};
-use timing::{all_in_turn, in_turn, time};
+use points::{POINTS, READS};
+use timing::{all_in_turn, in_turn, time, Times};
 
 const ROUNDS: usize = 2000;
 const SLOW_ROUNDS: usize = 20;
+const LINE_ROUNDS: usize = 1000;
 const LOG_ROUNDS: usize = 500;
 const POINT_ROUNDS: usize = 500;
 const SHOWS: usize = 200;
@@ -24,6 +27,7 @@ fn main() {
     draw_table();
     refresh_table();
     port_table();
+    line_table();
     point_table();
     log_table();
     show_table();
@@ -146,11 +150,42 @@ fn control_pair(calls: &Calls, lent: &mut Picture) {
     (calls.control_write)(&mut lent.block, &lent.vram, 0x52);
 }
 
-/// What a point is to take at most, without sprites and with 32.
+/// A line with its origins, and its colours alone by two ways, in turn. The last column has the best time in that of the log's
+/// way.
+fn line_table() {
+    println!(
+        "{:56}{:>8}{:>9}{:>13}{:>13}{:>12}",
+        "lines with origins from C, in nanoseconds", "best", "median", "colours (a)", "colours (b)", "to (a)"
+    );
+    for (mode, mode_name) in MODES.into_iter().enumerate() {
+        for (sprites, sprites_name) in SPRITES.into_iter().enumerate().take(2) {
+            let ways = [
+                lines::with_origins,
+                lines::by_log,
+                lines::by_empty_log,
+                lines::by_full_draw,
+            ];
+            let [line, log, empty, whole] = all_in_turn(LINE_ROUNDS, &mut lines::bench(mode, sprites), ways);
+            let each = |nanoseconds: f64| nanoseconds / lines::LINES as f64;
+            println!(
+                "{:56}{:>8.1}{:>9.1}{:>13.1}{:>13.1}{:>12.2}",
+                format!("{mode_name}, {sprites_name}"),
+                each(line.best),
+                each(line.median),
+                each(log.best - empty.best),
+                each(whole.best),
+                line.best / (log.best - empty.best)
+            );
+        }
+    }
+    println!("no call draws a line's colours alone: (a) is a 192nd of the run of a log that draws every line, less the run");
+    println!("of an empty log, and (b) a 192nd of a full draw, all best times\n");
+}
+
+/// What a point's colour is to take at most, without sprites and with 32.
 const POINT_GOALS: [&str; 2] = ["3 data reads", "1 line"];
 
-/// A point, a data read and a line drawn, in turn. The last columns have the best time of a point in those of the other two,
-/// and the goal.
+/// A point's colour, its origin, a data read and a line drawn, in turn.
 fn point_table() {
     println!(
         "{:48}{:>8}{:>9}{:>11}{:>9}{:>12}{:>10}{:>16}",
@@ -158,20 +193,29 @@ fn point_table() {
     );
     for (mode, mode_name) in MODES.into_iter().enumerate() {
         for (sprites, goal) in POINT_GOALS.into_iter().enumerate() {
-            let mut on = points::bench(mode, sprites);
-            let [point, read, line] =
-                all_in_turn(POINT_ROUNDS, &mut on, [points::points, points::reads, points::lines]);
-            let (best, read, line) = (point.best / POINTS as f64, read.best / READS as f64, line.best / LINES as f64);
-            println!(
-                "{:48}{best:>8.2}{:>9.2}{read:>11.2}{line:>9.1}{:>12.2}{:>10.3}{goal:>16}",
-                format!("{mode_name}, {}", SPRITES[sprites]),
-                point.median / POINTS as f64,
-                best / read,
-                best / line
-            );
+            let calls = [points::points, points::origins, points::reads, points::lines];
+            let [colour, origin, read, line] = all_in_turn(POINT_ROUNDS, &mut points::bench(mode, sprites), calls);
+            let title = format!("{mode_name}, {}", SPRITES[sprites]);
+            point_row(&title, &colour, &read, &line, goal);
+            point_row("  its origin", &origin, &read, &line, "");
         }
     }
     println!();
+}
+
+/// Behind the times, the best one in those of a data read and of a line, and the goal.
+fn point_row(title: &str, point: &Times, read: &Times, line: &Times, goal: &str) {
+    let (best, read, line) = (
+        point.best / POINTS as f64,
+        read.best / READS as f64,
+        line.best / points::LINES as f64,
+    );
+    println!(
+        "{title:48}{best:>8.2}{:>9.2}{read:>11.2}{line:>9.1}{:>12.2}{:>10.3}{goal:>16}",
+        point.median / POINTS as f64,
+        best / read,
+        best / line
+    );
 }
 
 /// A log's run and the same calls made singly, in turn. The last column is to be at most 1.

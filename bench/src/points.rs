@@ -1,4 +1,4 @@
-//! The colour of one point, beside a data read and a drawn line.
+//! The colour of one point and its origin, beside a data read and a drawn line.
 
 use crate::pictures::{picture, Picture};
 use difftest::library::LIBRARY;
@@ -12,6 +12,7 @@ pub const LINES: usize = 256;
 pub struct Bench {
     lent: Picture,
     line: [u8; 256],
+    origins: [u8; 256],
     place: u32,
 }
 
@@ -19,6 +20,7 @@ pub fn bench(mode: usize, sprites: usize) -> Bench {
     Bench {
         lent: picture(mode, sprites),
         line: [0; 256],
+        origins: [0; 256],
         place: 0,
     }
 }
@@ -28,7 +30,7 @@ const PLACES: u32 = 192 * 256;
 /// Steps over lines and columns, and comes to every point once before it begins again.
 const STEP: u32 = 30_011;
 
-/// The same walk for all three calls, which take from it what they need. The answers are summed, so that nothing is left
+/// The same walk for all calls, which take from it what they need. The answers are summed, so that nothing is left
 /// out.
 fn walk(place: &mut u32, calls: usize, mut call: impl FnMut(u32, u32) -> u32) {
     let mut sum = 0u32;
@@ -49,6 +51,11 @@ pub fn points(on: &mut Bench) {
     walk(&mut on.place, POINTS, |line, column| (LIBRARY.point)(block, vram, line, column));
 }
 
+pub fn origins(on: &mut Bench) {
+    let Picture { block, vram, .. } = &mut on.lent;
+    walk(&mut on.place, POINTS, |line, column| (LIBRARY.origin)(block, vram, line, column));
+}
+
 pub fn reads(on: &mut Bench) {
     let Picture { block, vram, .. } = &mut on.lent;
     walk(&mut on.place, READS, |_, _| (LIBRARY.data_read)(block, vram));
@@ -56,6 +63,6 @@ pub fn reads(on: &mut Bench) {
 
 pub fn lines(on: &mut Bench) {
     let Picture { block, vram, .. } = &mut on.lent;
-    let drawn = &mut on.line;
-    walk(&mut on.place, LINES, |number, _| (LIBRARY.draw_line)(block, vram, drawn, number));
+    let (drawn, origins) = (&mut on.line, &mut on.origins);
+    walk(&mut on.place, LINES, |number, _| (LIBRARY.draw_line)(block, vram, drawn, origins, number));
 }

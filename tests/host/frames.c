@@ -54,17 +54,17 @@ static void scribble(struct drawn *d)
  * with status 0, what it leaves there is its note. */
 static void fully_drawn(const char *what)
 {
-    uint8_t line[LINE], block[VDP_BLOCK_SIZE], alone[VDP_BLOCK_SIZE];
+    uint8_t line[LINE], origins[LINE], block[VDP_BLOCK_SIZE], alone[VDP_BLOCK_SIZE];
     int lines = 1, notes = 1;
     full = before;
     scribble(&full);
     check(draw(vdp_full_draw, &full) == 0, what);
     memcpy(block, before.lent.block, VDP_BLOCK_SIZE);
     for (uint32_t l = 0; l < LINES; l++) {
-        lines = lines && vdp_draw_line(block, VDP_BLOCK_SIZE, before.lent.vram, 16384, line, LINE, l) == 0 && memcmp(line, full.frame + LINE * l, LINE) == 0;
+        lines = lines && vdp_draw_line(block, VDP_BLOCK_SIZE, before.lent.vram, 16384, line, LINE, origins, LINE, l) == 0 && memcmp(line, full.frame + LINE * l, LINE) == 0;
         memcpy(alone, block, VDP_BLOCK_SIZE);
         alone[13] = 0;
-        vdp_draw_line(alone, VDP_BLOCK_SIZE, before.lent.vram, 16384, line, LINE, l);
+        vdp_draw_line(alone, VDP_BLOCK_SIZE, before.lent.vram, 16384, line, LINE, origins, LINE, l);
         notes = notes && full.notes[l] == (alone[13] & 0x40 ? alone[13] & 0x1F : 32) + (alone[13] & 0x20 ? 64 : 0);
     }
     block[14] = 0;
@@ -197,7 +197,7 @@ static const uint8_t modes[][8] = {
 static uint32_t step(void)
 {
     const uint8_t *r = now.lent.block;
-    uint8_t line[LINE];
+    uint8_t line[LINE], origins[LINE];
     unsigned m;
     uint32_t refused = 0;
     switch (below(40)) {
@@ -220,7 +220,7 @@ static uint32_t step(void)
     case 28: return below(4) ? vdp_end_of_display(now.lent.block, VDP_BLOCK_SIZE) : vdp_reset(now.lent.block, VDP_BLOCK_SIZE);
     case 29: case 30: case 31: return VDP_REFUSAL(vdp_status_read(now.lent.block, VDP_BLOCK_SIZE));
     case 32: case 33: return VDP_REFUSAL(vdp_data_read(now.lent.block, VDP_BLOCK_SIZE, now.lent.vram, 16384));
-    default: return vdp_draw_line(now.lent.block, VDP_BLOCK_SIZE, now.lent.vram, 16384, line, LINE, below(LINES));
+    default: return vdp_draw_line(now.lent.block, VDP_BLOCK_SIZE, now.lent.vram, 16384, line, LINE, origins, LINE, below(LINES));
     }
 }
 

@@ -59,15 +59,16 @@ static void fill(struct lent_run *r)
     memset(r->outcome, FOREIGN, sizeof r->outcome);
 }
 
-/* One record by the single call that it names. */
+/* One record by the single call that it names. A run has no slice for origins, and they are not looked at. */
 static uint32_t single(struct lent_run *r, uint8_t operation, uint8_t value)
 {
+    uint8_t origins[LINE];
     switch (operation) {
     case VDP_LOG_DATA_WRITE: return vdp_data_write(r->lent.block, VDP_BLOCK_SIZE, r->lent.vram, 16384, r->lent.map, 2048, value);
     case VDP_LOG_CONTROL_WRITE: return vdp_control_write(r->lent.block, VDP_BLOCK_SIZE, r->lent.vram, 16384, value);
     case VDP_LOG_DATA_READ: return vdp_data_read(r->lent.block, VDP_BLOCK_SIZE, r->lent.vram, 16384);
     case VDP_LOG_STATUS_READ: return vdp_status_read(r->lent.block, VDP_BLOCK_SIZE);
-    case VDP_LOG_DRAW_LINE: return vdp_draw_line(r->lent.block, VDP_BLOCK_SIZE, r->lent.vram, 16384, r->line, 256, value);
+    case VDP_LOG_DRAW_LINE: return vdp_draw_line(r->lent.block, VDP_BLOCK_SIZE, r->lent.vram, 16384, r->line, 256, origins, 256, value);
     case VDP_LOG_END_OF_DISPLAY: return vdp_end_of_display(r->lent.block, VDP_BLOCK_SIZE);
     default: return vdp_reset(r->lent.block, VDP_BLOCK_SIZE);
     }
@@ -257,10 +258,10 @@ static void differing_reads(void)
 /* The line slice: the last line drawn, or what was lent. */
 static void line_slice(void)
 {
-    static uint8_t first[LINE], second[LINE];
+    static uint8_t first[LINE], second[LINE], origins[LINE];
     fill(&alone);
-    vdp_draw_line(alone.lent.block, VDP_BLOCK_SIZE, alone.lent.vram, 16384, first, 256, 8);
-    vdp_draw_line(alone.lent.block, VDP_BLOCK_SIZE, alone.lent.vram, 16384, second, 256, 191);
+    vdp_draw_line(alone.lent.block, VDP_BLOCK_SIZE, alone.lent.vram, 16384, first, 256, origins, 256, 8);
+    vdp_draw_line(alone.lent.block, VDP_BLOCK_SIZE, alone.lent.vram, 16384, second, 256, origins, 256, 191);
     check(memcmp(first, second, LINE) != 0, "two lines that differ");
 
     fill(&now);

@@ -5,7 +5,8 @@ Graphics II. The point at line 150, column 173 is light red, colour 9, and no ot
 wrong name, pattern or colour address, because no other byte of the colour table has a 9.
 
 Line 150 is in the third part of the screen. Its cell 18 * 32 + 21 has a name that no other cell of this part has; row 6 of
-the pattern has one bit set, the sixth from the left. Registers 3 and 4 have lower bits that do not count.
+the pattern has one bit set, the sixth from the left. Registers 3 and 4 have lower bits that do not count. So the point's name
+stands at 6741, its pattern at 12550 and its colours at 4358.
 
 Six sprites of 16 by 16, magnified, cover the line. Of the four that are drawn none shows at the point: number 0 is
 transparent, number 2 stands left of it by early clock, numbers 3 and 5 have a hole there, in the left half and in the right.

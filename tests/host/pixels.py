@@ -9,7 +9,8 @@ import tempfile
 
 sys.dont_write_bytecode = True
 ROOT = os.path.join(os.path.dirname(os.path.abspath(__file__)), "..", "..")
-from snapshots import refused_snapshots, snapshot
+from rules import mode, pixels
+from snapshots import MASKS, refused_snapshots, snapshot
 
 PROGRAM = os.path.join(ROOT, "target", "bin", "pixel")
 # Table 2-3 of the data manual.
@@ -42,8 +43,8 @@ def run(words, given, name="pixel"):
     return done.stdout.decode("latin-1")
 
 
-def shown(colour):
-    return "%d %s\n" % (colour, NAMES[colour])
+def shown(colour, words):
+    return "%d %s\n%s\n" % (colour, NAMES[colour], words)
 
 
 def file_of(data):
@@ -56,7 +57,7 @@ def prints(what, words, given, wanted):
     """From the file's beginning. Where the usage is to be shown nothing of the file is read."""
     given.seek(0)
     got = run(words, given)
-    check(got == wanted, "%s, %s: %s in place of %s" % (what, short(words), ascii(got[:80]), ascii(wanted)))
+    check(got == wanted, "%s, %s: %s in place of %s" % (what, short(words), ascii(got[:160]), ascii(wanted)))
     if wanted == USAGE:
         # the place in the file is the program's too
         check(given.tell() == 0, "%s, %s: the file was read" % (what, short(words)))
@@ -91,26 +92,44 @@ def chosen(lines, choose):
     return points | {(choose.randrange(192), choose.randrange(256)) for _ in range(150)}
 
 
+def whole(data):
+    """Colour and words of every pixel, by line and column."""
+    return [pixels(data, line) for line in range(192)]
+
+
+def colours_of(found):
+    return [[colour for colour, _ in line] for line in found]
+
+
+def sample(name):
+    """Every pixel of a sample. The rules and the stored text have to agree on its colours."""
+    path = os.path.join(ROOT, "samples", name)
+    with open(path + ".snap", "rb") as file:
+        found = whole(file.read())
+    with open(path + ".txt") as file:
+        check(colours_of(found) == picture(file.read()), "the rules and the text of " + name)
+    return found
+
+
 def samples():
-    """The samples, against their stored texts; in one of them every line's number and every column's."""
+    """The samples; in one of them every line's number and every column's."""
     choose = random.Random(9918)
-    found = sorted(glob.glob(os.path.join(ROOT, "samples", "*.snap")))
-    check(len(found) == 4, "four samples")
-    for path in found:
-        name = os.path.basename(path)
-        with open(path[:-5] + ".txt") as file:
-            lines = picture(file.read())
-        points = chosen(lines, choose)
-        if name == "graphics2.snap":
+    paths = sorted(glob.glob(os.path.join(ROOT, "samples", "*.snap")))
+    check(len(paths) == 4, "four samples")
+    for path in paths:
+        name = os.path.basename(path)[:-5]
+        found = sample(name)
+        points = chosen(colours_of(found), choose)
+        if name == "graphics2":
             points |= {(line, choose.randrange(256)) for line in range(192)}
             points |= {(choose.randrange(192), column) for column in range(256)}
         with open(path, "rb", buffering=0) as given:
             for line, column in sorted(points):
-                prints(name, (str(line), str(column)), given, shown(lines[line][column]))
+                prints(name, (str(line), str(column)), given, shown(*found[line][column]))
 
 
 def stored():
-    """The stored input is the script's, its point has the stored line, and no other point has that colour."""
+    """The stored input is the script's, its point has the stored lines, and no other point has that colour."""
     def kept(name):
         with open(os.path.join(ROOT, "crates", "pixel", name), "rb") as file:
             return file.read()
@@ -119,24 +138,77 @@ def stored():
     check(made == kept("stdin"), "the stored input of pixel differs")
     words = kept("args").decode().split("\n")
     check(words == ["150", "173", ""], "the stored arguments")
-    check(kept("stdout") == b"9 light red\n", "the stored line")
+    check(kept("stdout") == b"9 light red\npattern plane, name at 6741, pattern at 12550, colours at 4358\n", "the stored lines")
     with file_of(made) as given:
         prints("the stored input", words[:2], given, kept("stdout").decode())
         given.seek(0)
         text = subprocess.run([os.path.join(ROOT, "target", "bin", "show")], stdin=given, stdout=subprocess.PIPE, check=True).stdout
-        lines = picture(text.decode())
+        lines, found = picture(text.decode()), whole(made)
         red = [(line, column) for line in range(192) for column in range(256) if lines[line][column] == 9]
         check(red == [(150, 173)], "the point that alone is light red")
+        check(colours_of(found) == lines, "the rules and the text of the stored input")
         for line, column in ((149, 173), (151, 173), (150, 172), (150, 174), (173, 150), (0, 0), (191, 255)):
-            prints("the stored input", (str(line), str(column)), given, shown(lines[line][column]))
+            prints("the stored input", (str(line), str(column)), given, shown(*found[line][column]))
 
 
 def each_name():
     """The backdrop in every colour. With all planes 0 a point is black, and transparent where external video is on."""
     for colour in range(16):
         for external in (0, 1):
+            words = "backdrop, register 7" if colour else "external video" if external else "black by default"
             with file_of(snapshot([(16384, external), (16391, 0xF0 + colour)])) as given:
-                prints("backdrop %d, external video %d" % (colour, external), ("100", "200"), given, shown(colour or 1 - external))
+                wanted = shown(colour or 1 - external, words)
+                prints("backdrop %d, external video %d" % (colour, external), ("100", "200"), given, wanted)
+
+
+# Registers 0 and 1: each mode, and lines without planes.
+MODES = ((0x00, 0xC0), (0x02, 0xC0), (0x00, 0xC8), (0x00, 0xD0))
+BLANK = ((0x00, 0x80), (0x02, 0x88), (0x00, 0xD8), (0x02, 0xD0), (0x02, 0xC8), (0x02, 0xD8))
+# External video and backdrop.
+BEHIND = ((0x00, 0x0E), (0x01, 0x0E), (0x00, 0x00), (0x01, 0x00))
+# Registers 2 to 6: the tables at their lowest addresses, and at their highest.
+ENDS = ((0x00,) * 5, MASKS[2:7])
+
+
+def busy(choose, first, form, behind, tables):
+    """A snapshot full of anything. Its sprites are on the screen or enter over the top edge, and one in four has colour 0."""
+    r = [first[0] | behind[0], first[1] | form, *tables, choose.randrange(16) * 16 | behind[1]]
+    vram = bytearray(choose.randbytes(16384))
+    for number in range(32):
+        at = 128 * r[5] + 4 * number
+        vram[at] = choose.randrange(-31, 192) % 256
+        vram[at + 3] &= choose.choice((0xFF, 0xFF, 0xFF, 0xF0))
+    return snapshot([*enumerate(vram), *enumerate(r, 16384)])
+
+
+def busy_snapshots(choose):
+    for behind in BEHIND:
+        for first in MODES:
+            for form in range(4):
+                yield busy(choose, first, form, behind, [choose.randrange(256) & mask for mask in MASKS[2:7]])
+        for first in MODES + BLANK:
+            for tables in ENDS:
+                yield busy(choose, first, 3, behind, tables)
+
+
+def origins():
+    """Made snapshots in every mode: on some lines, a column of each origin that the line has and one at an edge."""
+    choose, asked = random.Random(35), set()
+    for data in busy_snapshots(choose):
+        kind = mode(data[16384:16392])
+        with file_of(data) as given:
+            for line in (0, 191, *(choose.randrange(192) for _ in range(4))):
+                found = pixels(data, line)
+                columns = {found[column][1].split(",")[0]: column for column in choose.sample(range(256), 256)}
+                asked |= {(kind, origin) for origin in columns}
+                for column in {*columns.values(), choose.choice((0, 7, 8, 247, 248, 255))}:
+                    prints("%s, registers %s" % (kind, data[16384:16392].hex()), (str(line), str(column)), given,
+                           shown(*found[column]))
+    wanted = {(kind, origin) for kind in ("Graphics I", "Graphics II", "Multicolor", "Text", "blank")
+              for origin in ("pattern plane", "backdrop", "black by default", "external video")}
+    check(wanted - asked == {("blank", "pattern plane")}, "not asked for: %s" % sorted(wanted - asked))
+    unasked = {"sprite %d" % number for number in range(32)} - {origin for _, origin in asked}
+    check(not unasked, "not asked for: %s" % sorted(unasked))
 
 
 def large_numbers(limit, choose):
@@ -163,8 +235,7 @@ def large_numbers(limit, choose):
 def numbers():
     """4 for the line, and then 13 for the column; leading zeros count for nothing."""
     choose = random.Random(3)
-    with open(os.path.join(ROOT, "samples", "graphics1.txt")) as file:
-        lines = picture(file.read())
+    found = sample("graphics1")
     with open(os.path.join(ROOT, "samples", "graphics1.snap"), "rb", buffering=0) as given:
         for line in large_numbers(191, choose):
             for column in ("0", "255"):
@@ -179,10 +250,9 @@ def numbers():
         prints("both too large", ("9" * LONGEST, "9" * LONGEST), given, "refused 4\n")
         for zeros in (1, 2, 3, 10, 20, 300, 1000, LONGEST - 3):
             for line, column in ((0, 0), (191, 255), (20, 200), (100, 7)):
-                words = "0" * zeros + str(line), "0" * zeros + str(column)
-                prints("leading zeros", words, given, shown(lines[line][column]))
-                prints("leading zeros", (words[0], str(column)), given, shown(lines[line][column]))
-                prints("leading zeros", (str(line), words[1]), given, shown(lines[line][column]))
+                longer = "0" * zeros + str(line), "0" * zeros + str(column)
+                for words in (longer, (longer[0], str(column)), (str(line), longer[1])):
+                    prints("leading zeros", words, given, shown(*found[line][column]))
 
 
 def refused_files():
@@ -230,27 +300,31 @@ def pipes():
     """Standard input as a pipe, and an input that comes in parts. The program's own name is no matter."""
     with open(os.path.join(ROOT, "samples", "text.snap"), "rb") as file:
         data = file.read()
-    # line 0, column 9: the text begins "lines 0-0 9*4 1*15"
-    check(through_pipe(("0", "9"), data) == (shown(15), b""), "a pipe")
-    check(through_pipe(("0", "8"), data) == (shown(4), b""), "a pipe, one column before")
+    # line 0: the text begins "lines 0-0 9*4 1*15"; patterns stand at 2048, and the first cell has name 8
+    cell = "pattern plane, name at 0, pattern at 2112, colours in register 7"
+    white = shown(15, cell)
+    check(through_pipe(("0", "9"), data) == (white, b""), "a pipe")
+    check(through_pipe(("0", "8"), data) == (shown(4, cell), b""), "a pipe, one column before")
+    check(through_pipe(("0", "7"), data) == (shown(4, "backdrop, register 7"), b""), "a pipe, in the margin")
     check(through_pipe(("0", "9"), b"") == ("refused 5\n", b""), "an empty pipe")
     check(through_pipe(("0", "9"), data + b"\0")[0] == "refused 5\n", "a pipe with a byte more")
     for words in ((), ("0",), ("0", "0", "0"), ("0", "x"), ("", "9")):
         check(through_pipe(words, data) == (USAGE, data), "usage leaves the pipe: " + short(words))
     for name in ("", "other", "0"):
-        check(through_pipe(("0", "9"), data, name) == (shown(15), b""), "called as " + ascii(name))
+        check(through_pipe(("0", "9"), data, name) == (white, b""), "called as " + ascii(name))
         check(through_pipe((), data, name) == (USAGE, data), "called without words as " + ascii(name))
     for size in (1000, 4096, 16405):
         parts = subprocess.Popen([PROGRAM, "0", "9"], stdin=subprocess.PIPE, stdout=subprocess.PIPE, bufsize=0)
         for at in range(0, len(data), size):
             parts.stdin.write(data[at:at + size])
-        check(parts.communicate()[0].decode() == shown(15), "an input in parts of %d" % size)
+        check(parts.communicate()[0].decode() == white, "an input in parts of %d" % size)
 
 
 def main():
     samples()
     stored()
     each_name()
+    origins()
     numbers()
     refused_files()
     usage()

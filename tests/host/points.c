@@ -1,15 +1,20 @@
-/* The call that answers a point's colour, from C: each refusal number, the right one when two apply at once, and nothing
- * changed by any call; points of each mode; every point of many states against the drawn lines; and that no byte of VRAM
- * counts but those of the point's cell and of the line's sprites. */
+/* The calls that answer a point's colour and its origin, from C: each refusal number, the right one when two apply at once,
+ * and nothing changed by any call; points of each mode; every point of many states against the drawn lines; and that no byte
+ * of VRAM counts but those of the point's cell and of the line's sprites. */
 #include "check.h"
 
 enum { LINES = VDP_LINES, COLUMNS = VDP_LINE_SIZE };
 
 static struct lent now, before;
 
-static uint32_t point(uint32_t line, uint32_t column)
+typedef uint32_t call(const uint8_t *, size_t, const uint8_t *, size_t, uint32_t, uint32_t);
+
+/* A colour and its origin, or both answers, in one number. */
+#define PIXEL(colour, origin) ((uint32_t)(colour) + 65536u * (uint32_t)(origin))
+
+static uint32_t pixel(uint32_t line, uint32_t column)
 {
-    return vdp_point(now.block, VDP_BLOCK_SIZE, now.vram, VDP_VRAM_SIZE, line, column);
+    return PIXEL(vdp_point(now.block, VDP_BLOCK_SIZE, now.vram, VDP_VRAM_SIZE, line, column), vdp_origin(now.block, VDP_BLOCK_SIZE, now.vram, VDP_VRAM_SIZE, line, column));
 }
 
 static int unchanged(void) { return memcmp(&now, &before, sizeof now) == 0; }
@@ -20,8 +25,9 @@ static void put(unsigned at, const uint8_t *bytes, size_t count)
 }
 #define PUT(at, ...) put(at, (const uint8_t[]){ __VA_ARGS__ }, sizeof((const uint8_t[]){ __VA_ARGS__ }))
 
-/* A state in which line 0 and line 191 each have five sprites that meet, while 5S and F are clear: Graphics I with size
- * and magnify. The four corners of the picture have colours of their own. A first byte waits, and others were lost. */
+/* A state in which line 0 and line 191 each have five sprites of which some meet, while 5S and F are clear: Graphics I with
+ * size and magnify. The four corners of the picture have colours of their own: the first has sprite 0's, the last sprite 7's,
+ * and the others the pattern plane's. A first byte waits, and others were lost. */
 static void fill(void)
 {
     static const uint8_t block[VDP_BLOCK_SIZE] = { 0x00, 0xE3, 0x05, 0x80, 0x01, 0x20, 0x03, 0xF1, 0x34, 0x12, 0x99, 1, 0xFF, 0x00, 1, 0x67, 0x2B };
@@ -31,34 +37,34 @@ static void fill(void)
     memcpy(now.block, block, sizeof block);
     now.block[VDP_BLOCK_SIZE] = 0x77;
     for (unsigned n = 0; n < 10; n++) PUT(0x1000 + 4 * n, (uint8_t)(n < 5 ? 255 : 190), 100, 0, 8);
+    PUT(0x1000, 255, 0, 0, 6);
+    PUT(0x101C, 190, 255, 0, 9);
     PUT(0x1028, 0xD0);
     PUT(0x1800, 0xFF);
-    PUT(0x1400, 0), PUT(0x0800, 0x80), PUT(0x2000, 0x21);
     PUT(0x141F, 8), PUT(0x0840, 0x01), PUT(0x2001, 0x31);
     PUT(0x16E0, 16), PUT(0x0887, 0x80), PUT(0x2002, 0xC1);
-    PUT(0x16FF, 24), PUT(0x08C7, 0x01), PUT(0x2003, 0xD1);
 }
 
 static const uint32_t lines[] = { 0, 191, 192, 255, 256, 447, 0xFFFFFFFF };
 static const uint32_t columns[] = { 0, 255, 256, 257, 511, 65536, 0xFFFFFFFF };
-static const unsigned corners[2][2] = { { 2, 3 }, { 12, 13 } };
+static const unsigned corner_colours[2][2] = { { 6, 3 }, { 12, 9 } }, corner_origins[2][2] = { { 0, 32 }, { 32, 7 } };
 enum { GOOD = 2, NUMBERS = 7 };
 
 /* Every combination of lengths, contents, lines and columns: the first test that fails, in the order 1, 2, 3, 4, 13,
  * decides. */
-static void refusal(int v, int b, int way, int l, int c)
+static void refusal(const char *name, call *call, const unsigned corners[2][2], int v, int b, int way, int l, int c)
 {
     unsigned want = v ? VDP_VRAM_LENGTH : b ? VDP_SLICE_LENGTH : way ? VDP_ILL_FORMED : l >= GOOD ? VDP_LINE_NUMBER : c >= GOOD ? VDP_COLUMN_NUMBER : VDP_ACCEPTED;
     char what[160];
     spoil(now.block, way);
     before = now;
-    uint32_t got = vdp_point(now.block, block_lens[b], now.vram, vram_lens[v], lines[l], columns[c]);
-    snprintf(what, sizeof what, "point: vram %zu, block %zu, contents %d, line %u, column %u: answer %u, refusal %u wanted", vram_lens[v], block_lens[b], way, (unsigned)lines[l], (unsigned)columns[c], (unsigned)got, want);
+    uint32_t got = call(now.block, block_lens[b], now.vram, vram_lens[v], lines[l], columns[c]);
+    snprintf(what, sizeof what, "%s: vram %zu, block %zu, contents %d, line %u, column %u: answer %u, refusal %u wanted", name, vram_lens[v], block_lens[b], way, (unsigned)lines[l], (unsigned)columns[c], (unsigned)got, want);
     check(got == (want ? want * 256 : corners[l][c]), what);
     check(unchanged(), what);
 }
 
-static void refusals(void)
+static void refusals(const char *name, call *call, const unsigned corners[2][2])
 {
     static struct lent start;
     fill();
@@ -69,23 +75,22 @@ static void refusals(void)
                 for (int l = 0; l < NUMBERS; l++)
                     for (int c = 0; c < NUMBERS; c++) {
                         now = start;
-                        refusal(v, b, way, l, c);
+                        refusal(name, call, corners, v, b, way, l, c);
                     }
-    check(VDP_COLUMN_NUMBER == 13, "the number for a column in the header");
 }
 
 /* In the state above a drawn line moves status. A point does not, at any column. */
 static void status_stays(void)
 {
     static const uint8_t moved[2] = { 0x64, 0x69 };
-    uint8_t block[VDP_BLOCK_SIZE], drawn[COLUMNS];
+    uint8_t block[VDP_BLOCK_SIZE], drawn[COLUMNS], from[COLUMNS];
     for (int l = 0; l < GOOD; l++) {
         unsigned wrong = 0;
         fill();
         before = now;
         memcpy(block, now.block, sizeof block);
-        check(vdp_draw_line(block, sizeof block, now.vram, VDP_VRAM_SIZE, drawn, sizeof drawn, lines[l]) == 0 && block[13] == moved[l], "a drawn line moves status");
-        for (unsigned x = 0; x < COLUMNS; x++) wrong += point(lines[l], x) != drawn[x];
+        check(vdp_draw_line(block, sizeof block, now.vram, VDP_VRAM_SIZE, drawn, sizeof drawn, from, sizeof from, lines[l]) == 0 && block[13] == moved[l], "a drawn line moves status");
+        for (unsigned x = 0; x < COLUMNS; x++) wrong += pixel(lines[l], x) != PIXEL(drawn[x], from[x]);
         check(wrong == 0 && unchanged(), "a point leaves status as it was");
     }
 }
@@ -97,7 +102,7 @@ static void other_states(void)
     unsigned wrong = 0;
     fill();
     for (int l = 0; l < GOOD; l++)
-        for (unsigned x = 0; x < COLUMNS; x++) first[l][x] = point(lines[l], x);
+        for (unsigned x = 0; x < COLUMNS; x++) first[l][x] = pixel(lines[l], x);
     for (unsigned byte = 0; byte < 256; byte++) {
         now.block[8] = now.block[10] = now.block[13] = now.block[15] = now.block[16] = (uint8_t)byte;
         now.block[9] = (uint8_t)(byte % 64);
@@ -106,20 +111,20 @@ static void other_states(void)
         now.block[14] = byte / 2 % 2;
         before = now;
         for (int l = 0; l < GOOD; l++)
-            for (unsigned x = 0; x < COLUMNS; x++) wrong += point(lines[l], x) != first[l][x];
+            for (unsigned x = 0; x < COLUMNS; x++) wrong += pixel(lines[l], x) != first[l][x];
         wrong += !unchanged();
     }
     check(wrong == 0, "the point in other states");
 }
 
-/* State and VRAM where nothing can be written: at power-up every point is black. A write ends the test here. */
+/* State and VRAM where nothing can be written: at power-up every point is black by default. A write ends the test here. */
 static void read_only(void)
 {
     static const uint8_t block[VDP_BLOCK_SIZE] = { 0 }, vram[VDP_VRAM_SIZE] = { 0 };
     unsigned wrong = 0;
     fflush(stdout);
     for (uint32_t line = 0; line < LINES; line++)
-        for (uint32_t x = 0; x < COLUMNS; x++) wrong += vdp_point(block, sizeof block, vram, sizeof vram, line, x) != 1;
+        for (uint32_t x = 0; x < COLUMNS; x++) wrong += vdp_point(block, sizeof block, vram, sizeof vram, line, x) != 1 || vdp_origin(block, sizeof block, vram, sizeof vram, line, x) != 34;
     check(wrong == 0, "the points of a state that cannot be written");
 }
 
@@ -164,7 +169,7 @@ static unsigned pattern_colour(unsigned line, unsigned x)
     return half(colours, pattern >> (7 - x % 8) & 1);
 }
 
-static unsigned sprite_colour(unsigned line, unsigned x)
+static unsigned sprite_colour(unsigned line, unsigned x, unsigned *number)
 {
     int large = (reg(1) & 0x02) != 0, scale = reg(1) & 0x01 ? 2 : 1, covering = 0;
     unsigned colour = 0;
@@ -180,15 +185,18 @@ static unsigned sprite_colour(unsigned line, unsigned x)
         unsigned bits = 256 * fetch(row);
         if (large) bits += fetch(row + 16);
         across = (int)x - (int)left + (last & 0x80 ? 32 : 0);
-        if (colour == 0 && across >= 0 && across < 16 * scale && bits >> (15 - across / scale) & 1) colour = last % 16;
+        if (colour == 0 && across >= 0 && across < 16 * scale && bits >> (15 - across / scale) & 1) colour = last % 16, *number = n;
     }
     return colour;
 }
 
-static unsigned rule(unsigned line, unsigned x)
+static uint32_t rule(unsigned line, unsigned x)
 {
-    unsigned sprite = sprite_colour(line, x), pattern = pattern_colour(line, x), backdrop = reg(7) % 16;
-    return sprite ? sprite : pattern ? pattern : backdrop ? backdrop : reg(0) & 0x01 ? 0 : 1;
+    unsigned number = 0, sprite = sprite_colour(line, x, &number), pattern = pattern_colour(line, x), backdrop = reg(7) % 16;
+    if (sprite) return PIXEL(sprite, number);
+    if (pattern) return PIXEL(pattern, 32);
+    if (backdrop) return PIXEL(backdrop, 33);
+    return reg(0) & 0x01 ? PIXEL(0, 35) : PIXEL(1, 34);
 }
 
 /* A set-up on zero VRAM with nothing waiting, the redraw mark set and first bytes lost. */
@@ -200,17 +208,17 @@ static void set_up(const uint8_t registers[8])
     put_lost(now.block, 0xFFFE);
 }
 
-/* The points of the line are these runs of count and colour, by the call and by the rules above, and nothing has
+/* The points of the line are these runs of count, colour and origin, by the calls and by the rules above, and nothing has
  * changed. */
-static void shows(const char *what, uint32_t line, const int runs[][2], int count)
+static void shows(const char *what, uint32_t line, const int runs[][3], int count)
 {
     int x = 0, answered = 0, ruled = 0;
     char text[160];
     before = now;
     for (int r = 0; r < count; r++)
         for (int k = 0; k < runs[r][0]; k++, x++) {
-            answered += point(line, (uint32_t)x) == (uint32_t)runs[r][1];
-            ruled += rule(line, (unsigned)x) == (unsigned)runs[r][1];
+            answered += pixel(line, (uint32_t)x) == PIXEL(runs[r][1], runs[r][2]);
+            ruled += rule(line, (unsigned)x) == PIXEL(runs[r][1], runs[r][2]);
         }
     snprintf(text, sizeof text, "%s: line %u: %d of 256 points right", what, (unsigned)line, answered);
     check(x == COLUMNS && answered == COLUMNS && unchanged(), text);
@@ -218,7 +226,7 @@ static void shows(const char *what, uint32_t line, const int runs[][2], int coun
     check(ruled == COLUMNS, text);
 }
 #define SHOWS(what, line, ...) \
-    shows(what, line, (const int[][2]){ __VA_ARGS__ }, (int)(sizeof((const int[][2]){ __VA_ARGS__ }) / sizeof(int[2])))
+    shows(what, line, (const int[][3]){ __VA_ARGS__ }, (int)(sizeof((const int[][3]){ __VA_ARGS__ }) / sizeof(int[3])))
 
 /* The worked set-ups of the manual and of the guide, and points of each mode. */
 static void patterns(void)
@@ -230,63 +238,63 @@ static void patterns(void)
     static const uint8_t off[8] = { 0x00, 0x80, 0x05, 0x80, 0x01, 0x20, 0x00, 0x06 };
 
     set_up(graphics_i);
-    SHOWS("Graphics I over zero VRAM", 1, { 256, 1 });
+    SHOWS("Graphics I over zero VRAM", 1, { 256, 1, 33 });
     PUT(0x1400, 0, 1, 8);
     PUT(0x0808, 0xA5);
     PUT(0x2000, 0x62, 0x73);
     PUT(0x0000, 0xC3);
     PUT(0x1000, 0xFF, 100, 0, 8, 0xD0);
-    SHOWS("Graphics I: a pattern and a sprite", 0, { 8, 2 }, { 1, 6 }, { 1, 2 }, { 1, 6 }, { 2, 2 }, { 1, 6 }, { 1, 2 }, { 1, 6 }, { 8, 3 }, { 76, 2 }, { 2, 8 }, { 4, 2 }, { 2, 8 }, { 148, 2 });
+    SHOWS("Graphics I: a pattern and a sprite", 0, { 8, 2, 32 }, { 1, 6, 32 }, { 1, 2, 32 }, { 1, 6, 32 }, { 2, 2, 32 }, { 1, 6, 32 }, { 1, 2, 32 }, { 1, 6, 32 }, { 8, 3, 32 }, { 76, 2, 32 }, { 2, 8, 0 }, { 4, 2, 32 }, { 2, 8, 0 }, { 148, 2, 32 });
 
     set_up(graphics_ii);
     memset(now.vram + 0x2000, 0x4F, 0x1800);
     for (int i = 0; i < 768; i++) now.vram[0x3800 + i] = (uint8_t)i;
     PUT(0x3B00, 0xD0);
     PUT(0x17FF, 0x01);
-    SHOWS("Graphics II: the bottom right pixel", 191, { 255, 15 }, { 1, 4 });
+    SHOWS("Graphics II: the bottom right pixel", 191, { 255, 15, 32 }, { 1, 4, 32 });
     PUT(0x0800, 0x80);
     PUT(0x2800, 0xA3);
-    SHOWS("Graphics II: the second third", 64, { 1, 10 }, { 7, 3 }, { 248, 15 });
+    SHOWS("Graphics II: the second third", 64, { 1, 10, 32 }, { 7, 3, 32 }, { 248, 15, 32 });
     now.block[3] = 0x80, now.block[4] = 0x00;
-    SHOWS("Graphics II: lower bits of registers 3 and 4", 64, { 1, 10 }, { 7, 3 }, { 248, 15 });
+    SHOWS("Graphics II: lower bits of registers 3 and 4", 64, { 1, 10, 32 }, { 7, 3, 32 }, { 248, 15, 32 });
     PUT(0x3B00, 63, 4, 1, 6, 0xD0);
     PUT(0x1800, 0xC0);
-    SHOWS("Graphics II: a sprite", 64, { 1, 10 }, { 3, 3 }, { 2, 6 }, { 2, 3 }, { 248, 15 });
+    SHOWS("Graphics II: a sprite", 64, { 1, 10, 32 }, { 3, 3, 32 }, { 2, 6, 0 }, { 2, 3, 32 }, { 248, 15, 32 });
 
     set_up(multicolor);
     memset(now.vram + 0x1400, 0x40, 768);
     PUT(0x1400, 2);
     PUT(0x0810, 0x64, 0x46);
     PUT(0x1000, 0xD0);
-    SHOWS("Multicolor: the first byte", 3, { 4, 6 }, { 252, 4 });
-    SHOWS("Multicolor: the second byte", 4, { 4, 4 }, { 4, 6 }, { 248, 4 });
+    SHOWS("Multicolor: the first byte", 3, { 4, 6, 32 }, { 4, 4, 32 }, { 248, 4, 33 });
+    SHOWS("Multicolor: the second byte", 4, { 4, 4, 32 }, { 4, 6, 32 }, { 248, 4, 33 });
     PUT(0x16FF, 2);
     PUT(0x0817, 0x9A);
-    SHOWS("Multicolor: byte 7", 191, { 248, 4 }, { 4, 9 }, { 4, 10 });
+    SHOWS("Multicolor: byte 7", 191, { 248, 4, 33 }, { 4, 9, 32 }, { 4, 10, 32 });
     PUT(0x1000, 190, 246, 0, 13, 0xD0);
     PUT(0x0000, 0xC0);
-    SHOWS("Multicolor: a sprite", 191, { 246, 4 }, { 4, 13 }, { 2, 9 }, { 4, 10 });
+    SHOWS("Multicolor: a sprite", 191, { 246, 4, 33 }, { 4, 13, 0 }, { 2, 9, 32 }, { 4, 10, 32 });
 
     set_up(text);
     PUT(0x0800, 1);
     PUT(0x0008, 0x7C, 0x04, 0x04, 0x3C, 0x04, 0x04, 0x7C, 0x00);
-    SHOWS("Text: a letter", 0, { 9, 1 }, { 5, 7 }, { 242, 1 });
-    SHOWS("Text: the letter's row 3", 3, { 10, 1 }, { 4, 7 }, { 242, 1 });
+    SHOWS("Text: a letter", 0, { 8, 1, 33 }, { 1, 1, 32 }, { 5, 7, 32 }, { 234, 1, 32 }, { 8, 1, 33 });
+    SHOWS("Text: the letter's row 3", 3, { 8, 1, 33 }, { 2, 1, 32 }, { 4, 7, 32 }, { 234, 1, 32 }, { 8, 1, 33 });
     PUT(0x0010, 0xFF, 0x84, 0x03);
     PUT(0x0800 + 23 * 40, 2);
     PUT(0x0800 + 23 * 40 + 39, 2);
     PUT(0x1000, 183, 0, 0, 9, 183, 240, 0, 9);
-    SHOWS("Text: both margins", 184, { 8, 1 }, { 6, 7 }, { 228, 1 }, { 6, 7 }, { 8, 1 });
-    SHOWS("Text: the first and the last bit", 185, { 8, 1 }, { 1, 7 }, { 4, 1 }, { 1, 7 }, { 228, 1 }, { 1, 7 }, { 4, 1 }, { 1, 7 }, { 8, 1 });
-    SHOWS("Text: two bits that do not show", 186, { 256, 1 });
+    SHOWS("Text: both margins", 184, { 8, 1, 33 }, { 6, 7, 32 }, { 228, 1, 32 }, { 6, 7, 32 }, { 8, 1, 33 });
+    SHOWS("Text: the first and the last bit", 185, { 8, 1, 33 }, { 1, 7, 32 }, { 4, 1, 32 }, { 1, 7, 32 }, { 228, 1, 32 }, { 1, 7, 32 }, { 4, 1, 32 }, { 1, 7, 32 }, { 8, 1, 33 });
+    SHOWS("Text: two bits that do not show", 186, { 8, 1, 33 }, { 240, 1, 32 }, { 8, 1, 33 });
 
     set_up(off);
     memset(now.vram, 0x55, sizeof now.vram);
-    SHOWS("display off", 100, { 256, 6 });
+    SHOWS("display off", 100, { 256, 6, 33 });
     now.block[0] = 0x02, now.block[1] = 0xD0;
-    SHOWS("two mode bits", 1, { 256, 6 });
+    SHOWS("two mode bits", 1, { 256, 6, 33 });
     now.block[1] = 0xD8;
-    SHOWS("three mode bits", 191, { 256, 6 });
+    SHOWS("three mode bits", 191, { 256, 6, 33 });
 }
 
 /* All planes 0, in each mode and without one. */
@@ -296,11 +304,14 @@ static void nothing_to_show(void)
     for (int m = 0; m < 7; m++) {
         uint8_t registers[8] = { modes[m][0], modes[m][1], 0x05, 0x80, 0x01, 0x20, 0x00, 0x00 };
         set_up(registers);
-        SHOWS("all planes 0, external video off", 20, { 256, 1 });
+        SHOWS("all planes 0, external video off", 20, { 256, 1, 34 });
         now.block[0] |= 0x01;
-        SHOWS("all planes 0, external video on", 20, { 256, 0 });
+        SHOWS("all planes 0, external video on", 20, { 256, 0, 35 });
         now.block[7] = 0x0E;
-        SHOWS("a backdrop, external video on", 20, { 256, 14 });
+        if (m == TEXT)
+            SHOWS("a backdrop, external video on", 20, { 8, 14, 33 }, { 240, 14, 32 }, { 8, 14, 33 });
+        else
+            SHOWS("a backdrop, external video on", 20, { 256, 14, 33 });
     }
 }
 
@@ -317,47 +328,47 @@ static void sprites(void)
     sprites_of(0);
     PUT(0x0000, 0xF0);
     PUT(0x1000, 49, 10, 0, 5, 49, 12, 0, 6, 0xD0);
-    SHOWS("sprites that overlap", 50, { 10, 4 }, { 4, 5 }, { 2, 6 }, { 240, 4 });
+    SHOWS("sprites that overlap", 50, { 10, 4, 33 }, { 4, 5, 0 }, { 2, 6, 1 }, { 240, 4, 33 });
     PUT(0x1000, 49, 12, 0, 6, 49, 10, 0, 5, 0xD0);
-    SHOWS("sprites that overlap, in the other order", 50, { 10, 4 }, { 2, 5 }, { 4, 6 }, { 240, 4 });
+    SHOWS("sprites that overlap, in the other order", 50, { 10, 4, 33 }, { 2, 5, 1 }, { 4, 6, 0 }, { 240, 4, 33 });
     PUT(0x1000, 49, 10, 0, 0, 49, 12, 0, 6, 0xD0);
-    SHOWS("colour 0 in front", 50, { 12, 4 }, { 4, 6 }, { 240, 4 });
+    SHOWS("colour 0 in front", 50, { 12, 4, 33 }, { 4, 6, 1 }, { 240, 4, 33 });
     PUT(0x1000, 49, 10, 0, 0x70, 49, 12, 0, 0x76, 0xD0);
-    SHOWS("bits of the colour byte without effect", 50, { 12, 4 }, { 4, 6 }, { 240, 4 });
+    SHOWS("bits of the colour byte without effect", 50, { 12, 4, 33 }, { 4, 6, 1 }, { 240, 4, 33 });
     PUT(0x1000, 49, 10, 0, 0, 49, 20, 0, 2, 49, 30, 0, 3, 49, 40, 0, 5, 49, 50, 0, 6, 0xD0);
-    SHOWS("colour 0 among the four, and a fifth", 50, { 20, 4 }, { 4, 2 }, { 6, 4 }, { 4, 3 }, { 6, 4 }, { 4, 5 }, { 212, 4 });
+    SHOWS("colour 0 among the four, and a fifth", 50, { 20, 4, 33 }, { 4, 2, 1 }, { 6, 4, 33 }, { 4, 3, 2 }, { 6, 4, 33 }, { 4, 5, 3 }, { 212, 4, 33 });
     PUT(0x1000, 49, 10, 0, 1, 60, 15, 0, 9, 49, 20, 0, 2, 49, 30, 0, 3, 41, 35, 0, 9, 49, 40, 0, 5, 49, 50, 0, 6, 0xD0);
-    SHOWS("others between the four", 50, { 10, 4 }, { 4, 1 }, { 6, 4 }, { 4, 2 }, { 6, 4 }, { 4, 3 }, { 6, 4 }, { 4, 5 }, { 212, 4 });
+    SHOWS("others between the four", 50, { 10, 4, 33 }, { 4, 1, 0 }, { 6, 4, 33 }, { 4, 2, 2 }, { 6, 4, 33 }, { 4, 3, 3 }, { 6, 4, 33 }, { 4, 5, 5 }, { 212, 4, 33 });
     PUT(0x1000, 49, 10, 0, 5, 208, 15, 0, 9, 49, 20, 0, 6);
-    SHOWS("the terminator between two", 50, { 10, 4 }, { 4, 5 }, { 242, 4 });
+    SHOWS("the terminator between two", 50, { 10, 4, 33 }, { 4, 5, 0 }, { 242, 4, 33 });
     PUT(0x1000, 0xD0);
-    SHOWS("the terminator first", 50, { 256, 4 });
+    SHOWS("the terminator first", 50, { 256, 4, 33 });
     for (unsigned n = 0; n < 31; n++) PUT(0x1000 + 4 * n, 100, 40, 0, 9);
     PUT(0x107C, 49, 200, 0, 8);
-    SHOWS("sprite 31 alone", 50, { 200, 4 }, { 4, 8 }, { 52, 4 });
+    SHOWS("sprite 31 alone", 50, { 200, 4, 33 }, { 4, 8, 31 }, { 52, 4, 33 });
     PUT(0x1000, 49, 254, 0, 5, 0xD0);
-    SHOWS("over the right edge", 50, { 254, 4 }, { 2, 5 });
+    SHOWS("over the right edge", 50, { 254, 4, 33 }, { 2, 5, 0 });
     PUT(0x1000, 49, 255, 0, 5, 0xD0);
-    SHOWS("the last column", 50, { 255, 4 }, { 1, 5 });
+    SHOWS("the last column", 50, { 255, 4, 33 }, { 1, 5, 0 });
     PUT(0x1000, 49, 30, 0, 0x85, 0xD0);
-    SHOWS("early clock: half past the left edge", 50, { 2, 5 }, { 254, 4 });
+    SHOWS("early clock: half past the left edge", 50, { 2, 5, 0 }, { 254, 4, 33 });
     PUT(0x1000, 49, 28, 0, 0x85, 0xD0);
-    SHOWS("early clock: wholly past it", 50, { 256, 4 });
+    SHOWS("early clock: wholly past it", 50, { 256, 4, 33 });
     PUT(0x1000, 49, 255, 0, 0x85, 0xD0);
-    SHOWS("early clock: at the right", 50, { 223, 4 }, { 4, 5 }, { 29, 4 });
+    SHOWS("early clock: at the right", 50, { 223, 4, 33 }, { 4, 5, 0 }, { 29, 4, 33 });
     PUT(0x1000, 49, 28, 0, 0x81, 49, 0, 0, 0x81, 49, 10, 0, 0, 49, 10, 0, 2, 49, 20, 0, 3, 0xD0);
-    SHOWS("those past the edge are among the four", 50, { 10, 4 }, { 4, 2 }, { 242, 4 });
+    SHOWS("those past the edge are among the four", 50, { 10, 4, 33 }, { 4, 2, 3 }, { 242, 4, 33 });
 
     sprites_of(3);
     PUT(0x0030, 0x01);
     PUT(0x0038, 0xFF);
     PUT(0x1000, 49, 1, 7, 0x85, 0xD0);
-    SHOWS("early clock, 32 wide, X 1: column 0", 50, { 1, 5 }, { 255, 4 });
+    SHOWS("early clock, 32 wide, X 1: column 0", 50, { 1, 5, 0 }, { 255, 4, 33 });
     PUT(0x1000, 49, 0, 7, 0x85, 0xD0);
-    SHOWS("early clock, 32 wide, X 0: none", 50, { 256, 4 });
+    SHOWS("early clock, 32 wide, X 0: none", 50, { 256, 4, 33 });
     PUT(0x1000, 49, 60, 7, 5, 0xD0);
-    SHOWS("the right half, magnified", 51, { 90, 4 }, { 2, 5 }, { 164, 4 });
-    SHOWS("the second row, magnified", 52, { 256, 4 });
+    SHOWS("the right half, magnified", 51, { 90, 4, 33 }, { 2, 5, 0 }, { 164, 4, 33 });
+    SHOWS("the second row, magnified", 52, { 256, 4, 33 });
 }
 
 /* A slanting line, one bit to a row, that comes in over the top edge: its row on line 0. */
@@ -377,9 +388,9 @@ static void top_edge(void)
         PUT(0x1000, cases[n].y, 100, 0, 9, 0xD0);
         snprintf(what, sizeof what, "top edge: size %d, magnify %d, Y %d", cases[n].form / 2, wide - 1, cases[n].y);
         if (row < 0)
-            SHOWS(what, 0, { 256, 4 });
+            SHOWS(what, 0, { 256, 4, 33 });
         else
-            SHOWS(what, 0, { 100 + wide * row, 4 }, { wide, 9 }, { 156 - wide * row - wide, 4 });
+            SHOWS(what, 0, { 100 + wide * row, 4, 33 }, { wide, 9, 0 }, { 156 - wide * row - wide, 4, 33 });
     }
 }
 
@@ -417,21 +428,25 @@ static void busy(int m, int form, int turn)
     }
 }
 
+/* How many pixels have each origin. */
+static unsigned long seen[VDP_ORIGIN_EXTERNAL + 1];
+
 /* Every point, against lines that are drawn from a copy of the block, and against the rules. */
 static void every_point(int m, int form, int turn)
 {
-    uint8_t block[VDP_BLOCK_SIZE], drawn[COLUMNS];
+    uint8_t block[VDP_BLOCK_SIZE], drawn[COLUMNS], from[COLUMNS];
     unsigned undrawn = 0, unruled = 0;
     char what[160];
     busy(m, form, turn);
     before = now;
     memcpy(block, now.block, sizeof block);
     for (unsigned line = 0; line < LINES; line++) {
-        undrawn += vdp_draw_line(block, sizeof block, now.vram, VDP_VRAM_SIZE, drawn, sizeof drawn, line) != 0;
+        undrawn += vdp_draw_line(block, sizeof block, now.vram, VDP_VRAM_SIZE, drawn, sizeof drawn, from, sizeof from, line) != 0;
         for (unsigned x = 0; x < COLUMNS; x++) {
-            uint32_t got = point(line, x);
-            undrawn += got != drawn[x];
+            uint32_t got = pixel(line, x);
+            undrawn += got != PIXEL(drawn[x], from[x]);
             unruled += got != rule(line, x);
+            if (from[x] <= VDP_ORIGIN_EXTERNAL) seen[from[x]]++;
         }
     }
     snprintf(what, sizeof what, "%s, size %d, magnify %d, turn %d: of 49,152 points %u are not the drawn line's, %u not by the rules", modes[m].name, form / 2, form % 2, turn, undrawn, unruled);
@@ -446,7 +461,8 @@ static void every_point(int m, int form, int turn)
 static void each_byte(int m, int form, unsigned line, unsigned x, int step)
 {
     static uint8_t may[VDP_VRAM_SIZE];
-    unsigned foreign = 0, unruled = 0, want;
+    unsigned foreign = 0, unruled = 0;
+    uint32_t want;
     char what[160];
     memset(fetched, 0, sizeof fetched);
     want = rule(line, x);
@@ -454,13 +470,13 @@ static void each_byte(int m, int form, unsigned line, unsigned x, int step)
     for (size_t at = 0; at < VDP_VRAM_SIZE; at++)
         for (int flip = 255; flip > 0; flip -= step) {
             now.vram[at] ^= (uint8_t)flip;
-            uint32_t got = point(line, x);
+            uint32_t got = pixel(line, x);
             foreign += got != want && !may[at];
             unruled += may[at] ? got != rule(line, x) : 0;
             now.vram[at] ^= (uint8_t)flip;
         }
     snprintf(what, sizeof what, "%s, size %d, magnify %d, line %u, column %u: %u bytes of no concern change the point, %u changes not by the rules", modes[m].name, form / 2, form % 2, line, x, foreign, unruled);
-    check(point(line, x) == want && foreign == 0 && unruled == 0 && unchanged(), what);
+    check(pixel(line, x) == want && foreign == 0 && unruled == 0 && unchanged(), what);
 }
 
 /* What a point may take, counted: its cell has three bytes in Graphics I and II and two in Multicolor and Text. Here no
@@ -496,7 +512,10 @@ static void each_byte_of(int m, int form)
 
 int main(void)
 {
-    refusals();
+    int unseen = 0;
+    refusals("point", vdp_point, corner_colours);
+    refusals("origin", vdp_origin, corner_origins);
+    check(VDP_COLUMN_NUMBER == 13, "the number for a column in the header");
     status_stays();
     other_states();
     patterns();
@@ -506,6 +525,8 @@ int main(void)
     for (int m = 0; m < MODES; m++)
         for (int form = 0; form < FORMS; form++)
             for (int turn = 0; turn < (m < SHOWING ? TURNS : 1); turn++) every_point(m, form, turn);
+    for (int origin = 0; origin <= VDP_ORIGIN_EXTERNAL; origin++) unseen += seen[origin] == 0;
+    check(unseen == 0, "every origin among the points");
     for (int m = 0; m < SHOWING; m++) {
         cell_alone(m);
         for (int form = 0; form < FORMS; form++) each_byte_of(m, form);
