@@ -150,12 +150,11 @@ fn control_pair(calls: &Calls, lent: &mut Picture) {
     (calls.control_write)(&mut lent.block, &lent.vram, 0x52);
 }
 
-/// A line with its origins, and its colours alone by two ways, in turn. The last column has the best time in that of the log's
-/// way.
+/// A line with its origins, and its colours alone in two ways, in turn.
 fn line_table() {
     println!(
-        "{:56}{:>8}{:>9}{:>13}{:>13}{:>12}",
-        "lines with origins from C, in nanoseconds", "best", "median", "colours (a)", "colours (b)", "to (a)"
+        "{:56}{:>8}{:>9}{:>11}{:>13}{:>13}",
+        "lines with origins from C, in nanoseconds", "best", "median", "in a log", "in a frame", "to the log's"
     );
     for (mode, mode_name) in MODES.into_iter().enumerate() {
         for (sprites, sprites_name) in SPRITES.into_iter().enumerate().take(2) {
@@ -168,7 +167,7 @@ fn line_table() {
             let [line, log, empty, whole] = all_in_turn(LINE_ROUNDS, &mut lines::bench(mode, sprites), ways);
             let each = |nanoseconds: f64| nanoseconds / lines::LINES as f64;
             println!(
-                "{:56}{:>8.1}{:>9.1}{:>13.1}{:>13.1}{:>12.2}",
+                "{:56}{:>8.1}{:>9.1}{:>11.1}{:>13.1}{:>13.2}",
                 format!("{mode_name}, {sprites_name}"),
                 each(line.best),
                 each(line.median),
@@ -178,8 +177,8 @@ fn line_table() {
             );
         }
     }
-    println!("no call draws a line's colours alone: (a) is a 192nd of the run of a log that draws every line, less the run");
-    println!("of an empty log, and (b) a 192nd of a full draw, all best times\n");
+    println!("in a log, in a frame: the colours alone, which no call draws; best times, a 192nd each of the run of a");
+    println!("log that draws every line, less the run of an empty log, and of a full draw\n");
 }
 
 /// What a point's colour is to take at most, without sprites and with 32.
@@ -197,7 +196,7 @@ fn point_table() {
             let [colour, origin, read, line] = all_in_turn(POINT_ROUNDS, &mut points::bench(mode, sprites), calls);
             let title = format!("{mode_name}, {}", SPRITES[sprites]);
             point_row(&title, &colour, &read, &line, goal);
-            point_row("  its origin", &origin, &read, &line, "");
+            point_row("  its origin", &origin, &read, &line, "-");
         }
     }
     println!();
@@ -205,11 +204,7 @@ fn point_table() {
 
 /// Behind the times, the best one in those of a data read and of a line, and the goal.
 fn point_row(title: &str, point: &Times, read: &Times, line: &Times, goal: &str) {
-    let (best, read, line) = (
-        point.best / POINTS as f64,
-        read.best / READS as f64,
-        line.best / points::LINES as f64,
-    );
+    let (best, read, line) = (point.best / POINTS as f64, read.best / READS as f64, line.best / points::LINES as f64);
     println!(
         "{title:48}{best:>8.2}{:>9.2}{read:>11.2}{line:>9.1}{:>12.2}{:>10.3}{goal:>16}",
         point.median / POINTS as f64,
