@@ -153,7 +153,7 @@ fn control_pair(calls: &Calls, lent: &mut Picture) {
 /// A line with its origins, and its colours alone in two ways, in turn.
 fn line_table() {
     println!(
-        "{:56}{:>8}{:>9}{:>11}{:>13}{:>13}",
+        "{:56}{:>8}{:>9}{:>11}{:>13}{:>14}",
         "lines with origins from C, in nanoseconds", "best", "median", "in a log", "in a frame", "to the log's"
     );
     for (mode, mode_name) in MODES.into_iter().enumerate() {
@@ -167,7 +167,7 @@ fn line_table() {
             let [line, log, empty, whole] = all_in_turn(LINE_ROUNDS, &mut lines::bench(mode, sprites), ways);
             let each = |nanoseconds: f64| nanoseconds / lines::LINES as f64;
             println!(
-                "{:56}{:>8.1}{:>9.1}{:>11.1}{:>13.1}{:>13.2}",
+                "{:56}{:>8.1}{:>9.1}{:>11.1}{:>13.1}{:>14.2}",
                 format!("{mode_name}, {sprites_name}"),
                 each(line.best),
                 each(line.median),
