@@ -127,7 +127,7 @@ uint32_t vdp_draw_line(uint8_t *block, size_t block_len, const uint8_t *vram, si
 uint32_t vdp_point(const uint8_t *block, size_t block_len, const uint8_t *vram, size_t vram_len, uint32_t line, uint32_t column);
 
 /* The origin of that point's colour, by the same tests and from the same bytes. A refused call has 0 below the refusal
- * number, as an accepted one has for sprite 0: the refusal number decides. */
+ * number, as an accepted one has for sprite 0: look at the refusal number first. */
 uint32_t vdp_origin(const uint8_t *block, size_t block_len, const uint8_t *vram, size_t vram_len, uint32_t line, uint32_t column);
 
 /* A frame has lines 0 to 191 end to end. Each line has a note: the number of its fifth sprite, or 32 if

@@ -89,7 +89,7 @@ module _ (block : List ℕ) (unencoded : NoState block) where
       by : {r : Refusal} → r ≡ IllFormed → numberOf r * 256 + ifAccepted r number 0 ≡ refused
       by e = rw e
 
--- So each of the thirteen calls from C that test the state refuses such a block, if every list that it is lent has its length.
+-- So each of the fourteen calls from C that test the state refuses such a block, if every list that it is lent has its length.
 -- (Power-up and reading a snapshot replace the state.)
 module _ (block : List ℕ) (unencoded : NoState block) (seventeen : length block ≡ blockSize) where
   refuses : (ts : List Test) → AllPass ts → (number : ℕ) → order.resultAfter (sliceTest blockSize block ∷ (ts ++ (stateTest (chipOf block) ∷ []))) number ≡ refused

@@ -81,8 +81,8 @@ module _ {b : Bench} (inv : Invariant b) where
 -- is accepted and establishes the invariant: power-up, reset, a full draw, or reading a snapshot of bytes; then any list of
 -- calls, of which nothing is asked but that the bytes they bring are bytes. Then the state is well-formed and fits its types,
 -- VRAM holds bytes, and the lists have their lengths. So a call that is lent the bench's lists, directly or from C with the
--- state's own block, is refused only for its own slice for lines, line number, snapshot or log, and the run of a log from C for its
--- outcome too. All other calls are accepted.
+-- state's own block, is refused only for its own slices for a line and its origins, line or column number, snapshot or log, and the
+-- run of a log from C for its outcome too. All other calls are accepted.
 --
 -- It rests on `step` (specs/Step.antt). Demand 2's "after any calls" rests on it: the contracts say what each call does in a
 -- well-formed state, and this says that no list of calls leads to another.

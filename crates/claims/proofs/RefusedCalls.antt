@@ -16,7 +16,7 @@ use Rattle.claims.proofs.Laws.Steps.{step-outcome}
 
 -- From C a call is the direct call: on every state that fits its types, well-formed or not, and lent whatever lists, a call
 -- from C with the state's own block leaves the same bench and gives the same answer as the same call made directly. (RightFromC,
--- specs/After.antt, asks something of a point and of the run of a log alone: bytes in VRAM, and of a run a slice of four bytes
+-- specs/After.antt, asks something of a point's colour and of the run of a log alone: bytes in VRAM, and of a run a slice of four bytes
 -- for its outcome and bytes in the log too.)
 pub from-c : (b : Bench) → Fits (b .chip) → (call : Call) → RightFromC (call .op) (b .vram) → step b (madeBy (fromC own) call) ≡ step b (madeBy direct call)
 unfolding step
@@ -25,7 +25,7 @@ from-c b fits call right =
     from-c-same law (call .lists) b fits (right .1) (all-pass (described (call .op) .fromC .tests) (law .only-from-c .can-refuse) (ap isAccepted (right .0)))
 
 -- A refused call leaves the bench as it was, answers no number and leaves the slices that are its own: on every state that fits
--- its types, well-formed or not, and whatever was lent. (FitNumbers asks something of a point and of a run from C alone: that
+-- its types, well-formed or not, and whatever was lent. (FitNumbers asks something of a point's colour and of a run from C alone: that
 -- VRAM holds bytes, and the log too. That the outcome of a refused run is as lent too, the contract of the call from C says.)
 pub refused-leaves : (b : Bench) → Fits (b .chip) → (call : Call) → FitNumbers (call .caller) (described (call .op)) (b .vram) → (step b call .reply .refusal ≡ 0 → ⊥) → LeftAsLent b call (step b call)
 refused-leaves b fits call numbers some = by (step-outcome b fits call numbers)

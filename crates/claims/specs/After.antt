@@ -51,7 +51,7 @@ FitNumbers direct d vram = Unit {0}
 FitNumbers (fromC block) d vram = d .fromC .NumbersFit vram
 
 -- What there is to a call from C alone is right: a slice for numbers passes its tests, and the numbers fit into their bytes. (Of
--- every call but the run of a log and a point this asks nothing.)
+-- every call but the run of a log and the colour of a point this asks nothing.)
 abbrev pub RightFromC : Op → List ℕ → Type 0
 RightFromC op vram = (refusalOf (described op .fromC .tests) ≡ Accepted) × described op .fromC .NumbersFit vram
 

@@ -27,10 +27,11 @@ singleBy Reset v line codes = Op.reset
 abbrev pub single : List ℕ → List ℕ → Record → Call
 single line codes r = whole (singleBy (operationOf (r .operation)) (r .value) line codes) direct
 
--- The calls of several records. The one at place i is lent codes i for its origins, and those behind the first are lent the later ones.
+-- The slices from place 1 on.
 abbrev pub later : (ℕ → List ℕ) → ℕ → List ℕ
 later codes i = codes (suc i)
 
+-- The calls of several records, the one at place i with codes i for its origins.
 abbrev pub singles : List ℕ → (ℕ → List ℕ) → List Record → List Call
 singles line codes [] = []
 singles line codes (r ∷ rs) = single line (codes 0) r ∷ singles line (later codes) rs

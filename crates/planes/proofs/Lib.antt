@@ -1,3 +1,4 @@
 pub mod Laws
 pub mod Counted
 pub mod SettledColour
+pub mod AddressesFetched

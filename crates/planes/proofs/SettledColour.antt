@@ -1,4 +1,4 @@
--- The colour that the step settles is the pixel's colour as defined without origins: so no colour turns on a sprite's number.
+-- The colour that the step settles is the pixel's colour as defined without origins: so no colour depends on a sprite's number.
 use Prim.Native.Nat.{ℕ}
 use mathlib.Core.Path.{_≡_, refl, ap, _∙_}
 use mathlib.Core.List.{List, [], _∷_}

@@ -8,7 +8,8 @@ use Rattle.planes.specs.Cells.{nameAddress, patternAddress, colourAddres
 use Rattle.planes.specs.Plane.{inCells, cellAt}
 use Rattle.planes.specs.declared.addresses.CellAddresses.{CellAddresses}
 
--- Of cell i of line l: its name, and by the name that VRAM holds there its pattern and its colours.
+-- Of cell i of line l: its name, and by the name that VRAM holds there its pattern and its colours. In Multicolor the pattern is the
+-- byte with the two colours. There and in Text no table of colours is read, and colours is 0.
 abbrev pub addressesOf : Mode → List ℕ → ℕ → ℕ → List ℕ → CellAddresses
 addressesOf m r l i vram =
     let name = getD vram (nameAddress m r l i) 0 in

@@ -9,7 +9,8 @@ use Rattle.planes.specs.declared.origin.Origin.{Origin}
 use Rattle.planes.specs.declared.origin.Origin.the-variants.{Sprite, Pattern, Backdrop, Black, External}
 use Rattle.planes.specs.declared.origin.Pixel.{Pixel}
 
--- The code of each origin. A sprite's is its number in the attribute table, 0 to 31.
+-- The code of each origin. A sprite's is its number in the attribute table, 0 to 31: no scan finds another (`found-below`, in the
+-- laws of sprites).
 abbrev pub originCode : Origin → ℕ
 originCode (Sprite n) = n
 originCode Pattern = 32

@@ -7,14 +7,14 @@ ghost use Rattle.chip.specs.Bits as bits;
 ghost use Rattle.planes.specs.Painted.{Painted};
 use chip::bit;
 
-// One of two colours.
+// One of two bytes.
 pub fn choose(set: bool, one: u8, zero: u8) -> u8
     ensures { λ r. ⌜ r ≡ cond set one zero ⌝ }
 {
     if set { one } else { zero }
 }
 
-// The first width bits of a pattern, from the left: 1 bits in one colour, 0 bits in the other.
+// The first width bits of a pattern, from the left: 1 bits as one byte, 0 bits as the other.
 fn paint_cell(line: &mut [u8], at: usize, width: usize, pattern: u8, one: u8, zero: u8)
     requires { ⌜ (at + width ≤ length (now line)) × (width ≤ 8) ⌝ }
     ensures { λ _. ⌜ Painted (now (line .exit)) (now (line .entry)) at width (λ k. cond (bits.bit (7 - k) pattern) one zero) ⌝ }

@@ -60,7 +60,7 @@ fn show_cell(line: &mut [u8], at: usize, width: usize, cell: Cell, behind: u8)
     paint_pattern(line, at, width, cell.pattern, one, zero);
 }
 
-// The code of the plane's origin where it has this colour, over what stands behind it.
+// The code of a pixel's origin where the plane has this colour.
 fn plane_code(colour: u8, behind: Pixel) -> u8
     ensures { λ c. ⌜ c ≡ originCode (inFront colour Pattern behind .origin) ⌝ }
 {

@@ -18,7 +18,7 @@ use Rattle.planes.specs.Origin.{originCode}
 use Rattle.planes.specs.declared.origin.Pixel.{Pixel}
 use Rattle.scanline.specs.Line.{lineOf, colourAt, pixelAt}
 use Rattle.scanline.specs.Calls.{lineSize, colours, origins, drawLineRefusal, drawLineLine, drawLineOrigins}
-use Rattle.scanline.proofs.Laws.LineDraws.{line-accepted, line-drawn, origins-drawn}
+use Rattle.scanline.proofs.Laws.LineDraws.{line-accepted, line-drawn}
 use Rattle.point.specs.Calls.{pointColour, pointOrigin, pointTests, pointRefusal, point}
 use Rattle.point.proofs.Laws.Point.{same-colour, same-pixel}
 
@@ -39,12 +39,13 @@ as-drawn c vram l x ok line codes wide long =
     let p = all-pass (pointTests c vram l x) (refl, (refl, (refl, (refl, tt)))) (ap isAccepted ok) in
     let full = eqb-true _ _ (p .0) in
     let low = leb-true l 191 (p .1 .1 .0) in
-    let near = leb-true x 255 (p .1 .1 .1 .0) in (
-      line-accepted vram full c (p .1 .0) line codes (wide, long) l (omega arith),
+    let near = leb-true x 255 (p .1 .1 .1 .0) in
+    let drawn = line-accepted vram full c (p .1 .0) line codes (wide, long) l (omega arith) in (
+      drawn,
       the-new ok (pointColour (c .registers) vram l x) 0
           ∙ column (c .registers) vram l x (omega arith)
           ∙ sym (ap (λ (s : List ℕ). getD s x 0) (line-drawn vram full c (p .1 .0) line codes (wide, long) l (omega arith))),
       the-new ok (pointOrigin (c .registers) vram l x) 0
           ∙ origin-column (c .registers) vram l x (omega arith)
-          ∙ sym (ap (λ (s : List ℕ). getD s x 0) (origins-drawn vram full c (p .1 .0) line codes (wide, long) l (omega arith))),
+          ∙ sym (ap (λ (s : List ℕ). getD s x 0) (the-new drawn (origins (c .registers) vram l) codes)),
     )

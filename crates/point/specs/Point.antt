@@ -14,7 +14,7 @@ pub record Spot : Type 0 where
   pub cell : Cell
   pub found : Found
 
--- What the point at line l and column x reads: from this one description come both its colour and its fetches.
+-- What the point at line l and column x reads: from this one description come its colour, its origin and its fetches.
 unfoldable pub pointOf : List ℕ → ℕ → ℕ → Fetch Spot
 pointOf r l x =
     followed (cellHolding (modeOf r) r l x) λ cell.
@@ -25,6 +25,6 @@ pointOf r l x =
 unfoldable pub colourOf : List ℕ → Spot → ℕ → ℕ
 colourOf r spot x = settled r (spot .found) (cellColour (modeOf r) (spot .cell) x) x
 
--- So is its origin with the colour.
+-- Its pixel, colour and origin, is settled likewise.
 unfoldable pub spotPixel : List ℕ → Spot → ℕ → Pixel
 spotPixel r spot x = settledPixel r (spot .found) (cellColour (modeOf r) (spot .cell) x) x

@@ -1,7 +1,7 @@
 // The call that answers the colour of one point, and where it comes from.
 ghost use mathlib.Core.Path.{_≡_};
 ghost use Rattle.point.specs.Calls as calls;
-use crate::pixel::pixel_of;
+use crate::pixel::point_pixel;
 use chip::Answer;
 use chip::Chip;
 use chip::Refusal;
@@ -69,7 +69,7 @@ pub fn point(chip: Chip, vram: &[u8], line: u32, column: u32) -> PointAnswer
         return refused(chip, Refusal::ColumnNumber);
     }
     let registers = chip.registers;
-    let pixel = pixel_of(registers, vram, line as u8, column as u8);
+    let pixel = point_pixel(registers, vram, line as u8, column as u8);
     let origin = pixel.origin;
     let code = origin.code();
     PointAnswer {

@@ -8,7 +8,7 @@ ghost use Rattle.point.specs.Calls.{pointPixel};
 use planes::Pixel;
 use scanline::has_sprites;
 
-pub fn pixel_of(r: [u8; 8], vram: &[u8], l: u8, x: u8) -> Pixel
+pub fn point_pixel(r: [u8; 8], vram: &[u8], l: u8, x: u8) -> Pixel
     requires { ⌜ (masked r ≡ true) × (length (now vram) ≡ 16384) × (l < 192) ⌝ }
     ensures { λ p. ⌜ p ≡ pointPixel r (now (vram .entry)) l x ⌝ }
 {

@@ -11,13 +11,13 @@ use Rattle.chip.specs.declared.state.Chip.{Chip}
 use Rattle.chip.specs.declared.refusal.Refusal.the-variants.{SliceLength}
 use Rattle.scanline.specs.Notes.{statusAfter}
 use Rattle.scanline.specs.Calls.{lineSize, noteAt, colours, drawLineRefusal, drawLine, drawLineLine}
-use Rattle.scanline.specs.Colours.{unseen, drawColoursRefusal, drawColours, drawColoursLine}
+use Rattle.scanline.specs.Colours.{zeroCodes, drawColoursRefusal, drawColours, drawColoursLine}
 
 module _ (c : Chip) (vram line : List ℕ) (l : ℕ) (codes : List ℕ) (wide : length codes ≡ lineSize) where
   -- of the slice for origins the tests look at the length alone
   pub same-refusal : drawColoursRefusal c vram line l ≡ drawLineRefusal c vram line codes l
   same-refusal =
-      let both : eqb (length unseen) lineSize ≡ eqb (length codes) lineSize = ap (λ (n : ℕ). eqb n lineSize) (length-replicate {A = ℕ} 256 0) ∙ ap (λ (n : ℕ). eqb n lineSize) (sym wide) in
+      let both : eqb (length zeroCodes) lineSize ≡ eqb (length codes) lineSize = ap (λ (n : ℕ). eqb n lineSize) (length-replicate {A = ℕ} 256 0) ∙ ap (λ (n : ℕ). eqb n lineSize) (sym wide) in
       λ i. refusalOf (vramTest vram ∷ stateTest c ∷ sliceTest lineSize line ∷ record { refusal = SliceLength; passes = both i } ∷ lineTest l ∷ [])
 
   pub same-answer : drawColours c vram line l ≡ drawLine c vram line codes l

@@ -1,5 +1,5 @@
 -- The colours are those of before: the colour of a pixel that is settled with its origin is the pixel's colour, for any sprites that
--- a scan found and any colour of the pattern plane; and no colour turns on a sprite's number.
+-- a scan found and any colour of the pattern plane; and no colour depends on a sprite's number.
 use Prim.Native.Nat.{ℕ}
 use mathlib.Core.Path.{_≡_, refl, ap, _∙_}
 use mathlib.Core.Bool.{cond}

@@ -1,4 +1,4 @@
-// A line drawn by colours alone, for those who have no slice for origins.
+// A line drawn by its colours alone, where no slice is lent for origins.
 ghost use mathlib.Core.Path.{_≡_};
 ghost use Rattle.scanline.specs.Colours as calls;
 use crate::draw::draw_row;

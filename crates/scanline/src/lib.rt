@@ -1,4 +1,5 @@
-// A line: its pattern plane, its sprites and its note; the call that draws it, with its origins or without, and the test whether a byte that it fetches is dirty.
+// A line: its pattern plane, its sprites and its note; the call that draws it, with its origins or without, and the test whether a byte
+// that it fetches is dirty.
 mod call;
 mod colours;
 mod draw;

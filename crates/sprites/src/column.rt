@@ -10,7 +10,6 @@ ghost use Rattle.sprites.specs.Pixels.{visible, hits, numberedColours};
 ghost use Rattle.sprites.specs.Scan.{scanOf};
 ghost use Rattle.sprites.specs.Scanned.{Held};
 use crate::columns::bit_at;
-use crate::paint::front;
 use crate::scan::Scan;
 use crate::scan::scan_of;
 use crate::shape::is_terminator;
@@ -19,6 +18,7 @@ use crate::sprite::Sprite;
 use crate::sprite::attribute_address;
 use planes::Origin;
 use planes::Pixel;
+use planes::choose;
 use planes::in_front;
 
 // A sprite's colour at column c, counted from 32 left of the screen, and 0 where it has no set bit.
@@ -32,7 +32,7 @@ fn colour_at(r: [u8; 8], s: Sprite, c: usize) -> u8
     if first + side(r) <= c {
         return 0;
     }
-    front(bit_at(r, s, c), s.colour)
+    choose(bit_at(r, s, c), s.colour, 0)
 }
 
 // The pixel at the screen's column x, with the sprites over what stands behind them: the highest number first, so that a lower one

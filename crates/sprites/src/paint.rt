@@ -11,13 +11,6 @@ use crate::columns::first_visible;
 use crate::sprite::Sprite;
 use planes::choose;
 
-// A colour where the bit is set, and 0 where it is not.
-pub fn front(set: bool, colour: u8) -> u8
-    ensures { λ c. ⌜ c ≡ cond set colour 0 ⌝ }
-{
-    if set { colour } else { 0 }
-}
-
 // Each column where the sprite has a set bit takes the value.
 fn paint_bits(line: &mut [u8], r: [u8; 8], s: Sprite, value: u8)
     requires { ⌜ length (now line) ≡ 256 ⌝ }

@@ -33,7 +33,7 @@ use Rattle.log.proofs.Laws.Sound.{Sound, passes, sound-after, Values, values-by
 use Rattle.birdcleft.specs.Calls.{resultThrough, blockThrough, listThrough}
 use Rattle.birdcleft.specs.Logs.{outcomeSize, runEntry, reported}
 use Rattle.birdcleft.proofs.Laws.{sliceTested}
-use Rattle.scanline.specs.Colours.{unseen}
+use Rattle.scanline.specs.Colours.{zeroCodes}
 use Rattle.claims.specs.Bench.{Bench}
 use Rattle.claims.specs.Call.{Op}
 use Rattle.claims.specs.Description.{Left, tests, ofRan, ofOutcome, runs}
@@ -67,7 +67,7 @@ module _ (frame notes : List ℕ) where
   benchOn t = bench (t .chip) (t .vram) (t .map) frame notes
 
   -- What a single call leaves on it, by the definition of the step and by that of the run, which draws lines by colours alone.
-  same-bench : (op : Operation) (v : ℕ) (t : Target) → benchOf (described (singleBy op v (t .line) unseen) .directly (benchOn t)) ≡ benchOn (target (answerBy op v t .chip) (vramBy op v t) (mapBy op v t) (lineBy op v t))
+  same-bench : (op : Operation) (v : ℕ) (t : Target) → benchOf (described (singleBy op v (t .line) zeroCodes) .directly (benchOn t)) ≡ benchOn (target (answerBy op v t .chip) (vramBy op v t) (mapBy op v t) (lineBy op v t))
   unfolding answerBy vramBy mapBy lineBy
   same-bench DataWrite v t = refl
   same-bench ControlWrite v t = refl
@@ -77,7 +77,7 @@ module _ (frame notes : List ℕ) where
   same-bench EndOfDisplay v t = refl
   same-bench Reset v t = refl
 
-  single-passes : {t : Target} → Sound t → (op : Operation) (v : ℕ) → valueAllowed op v ≡ true → AllPass (tests (described (singleBy op v (t .line) unseen)) (benchOn t))
+  single-passes : {t : Target} → Sound t → (op : Operation) (v : ℕ) → valueAllowed op v ≡ true → AllPass (tests (described (singleBy op v (t .line) zeroCodes)) (benchOn t))
   single-passes s DataWrite v ok = passes s DataWrite v ok
   single-passes s ControlWrite v ok = passes s ControlWrite v ok
   single-passes s DataRead v ok = passes s DataRead v ok
@@ -95,10 +95,10 @@ module _ (frame notes : List ℕ) where
   keeps-single t r ok small long inv =
       let op : Operation = operationOf (r .operation) in
       let v : ℕ = r .value in
-      let d = described (singleBy op v (t .line) unseen) in
+      let d = described (singleBy op v (t .line) zeroCodes) in
       let p : AllPass (tests d (benchOn t)) = single-passes (sound-on long inv) op v (and-right (leb (r .operation) 6) (valueAllowed op v) ok) in
       subst Invariant (same-bench op v t)
-      (keeps inv (single-lawful op v (t .line) unseen .effect (benchOn t) (single-bytes op v (t .line) unseen small) (inv .lengths) (record { chip = inv .ready .fits; vram = inv .bytes }) p (all-accepted (tests d (benchOn t)) p)))
+      (keeps inv (single-lawful op v (t .line) zeroCodes .effect (benchOn t) (single-bytes op v (t .line) zeroCodes small) (inv .lengths) (record { chip = inv .ready .fits; vram = inv .bytes }) p (all-accepted (tests d (benchOn t)) p)))
 
   keeps-run : (i : ℕ) (rs : List Record) (t : Target) → allAllowed rs ≡ true → Values rs → length (t .line) ≡ 256 → Invariant (benchOn t) → Invariant (benchOn (runFrom i rs t .target))
   unfolding allAllowed runFrom

@@ -13,7 +13,7 @@ use Rattle.chip.specs.declared.state.Chip.{Chip}
 use Rattle.chip.specs.declared.refusal.Refusal.the-variants.{Accepted}
 use Rattle.chip.proofs.Laws.Refusals.{the-new, all-accepted}
 use Rattle.scanline.specs.Notes.{statusAfter, statusThrough}
-use Rattle.scanline.specs.Calls.{noteAt, colours, origins, drawLineTests, drawLineRefusal, drawLine, drawLineLine, drawLineOrigins}
+use Rattle.scanline.specs.Calls.{noteAt, colours, drawLineTests, drawLineRefusal, drawLine, drawLineLine}
 use Rattle.scanline.specs.LineDraws.{Slices, stateAfter, drawnLine}
 
 pub one-note-more : (s : ℕ) (l : List ℕ) (n : ℕ) → statusThrough s (l ++ (n ∷ [])) ≡ statusAfter (statusThrough s l) n
@@ -49,9 +49,6 @@ module _ (vram : List ℕ) (full : length vram ≡ 16384) where
 
     pub line-drawn : drawLineLine c vram line codes l ≡ colours (c .registers) vram l
     line-drawn = the-new line-accepted (colours (c .registers) vram l) line
-
-    pub origins-drawn : drawLineOrigins c vram line codes l ≡ origins (c .registers) vram l
-    origins-drawn = the-new line-accepted (origins (c .registers) vram l) codes
 
     state-drawn : drawLine c vram line codes l .chip ≡ withStatus (statusAfter (c .status) (noteAt (c .registers) vram l)) c
     state-drawn = the-new line-accepted (withStatus (statusAfter (c .status) (noteAt (c .registers) vram l)) c) c

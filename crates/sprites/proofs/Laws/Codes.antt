@@ -19,7 +19,7 @@ use Rattle.sprites.specs.Codes.{firstNumber}
 use Rattle.sprites.specs.declared.sprite.Sprite as sprite
 use Rattle.sprites.proofs.Laws.Found.{scan-finds}
 
-abbrev Sprites : Type 0
+abbrev pub Sprites : Type 0
 Sprites = List sprite.Sprite
 
 -- the code of a pixel in front of another
@@ -40,7 +40,7 @@ without-numbers r [] c = refl
 without-numbers r (s ∷ l) c = ap (λ (k : List ℕ). cond (hits r s c) (s .colour) 0 ∷ k) (without-numbers r l c)
 
 -- Every number that a scan finds is below 32.
-abbrev EachBelow : Sprites → Type 0
+abbrev pub EachBelow : Sprites → Type 0
 EachBelow [] = Unit {0}
 EachBelow (s ∷ l) = (s .number < 32) × EachBelow l
 
@@ -55,7 +55,7 @@ number-read r l n y vram =
     let at = spritePatternAddress r l y (getD vram (attributeAddress r n 2) 0) in
     by-size (largeSprites r) n (getD vram (attributeAddress r n 1) 0) (getD vram (attributeAddress r n 3) 0) (getD vram at 0) (at + 16) vram
 
-found-below : (r : List ℕ) (l : ℕ) (vram : List ℕ) → EachBelow (value (scanOf r l) vram .sprites)
+pub found-below : (r : List ℕ) (l : ℕ) (vram : List ℕ) → EachBelow (value (scanOf r l) vram .sprites)
 found-below r l vram = scan-finds r l vram (λ f. EachBelow (f .sprites)) (λ e small. tt) (λ n y low f rest. (rw (number-read r l n y vram) low, rest))
 
 -- Every code is at most 35.

@@ -9,7 +9,6 @@ use Rattle.chip.proofs.Laws.State.{taken-not, left-not}
 use Rattle.planes.specs.Addresses.{addressesAt}
 use Rattle.planes.specs.Cells.{nameAddress, patternAddress, colourAddress}
 use Rattle.planes.specs.Plane.{inCells, cellAt}
-use Rattle.planes.specs.declared.addresses.CellAddresses.{CellAddresses}
 use Rattle.planes.proofs.Laws.Cells.{name-inside, pattern-inside, colours-inside}
 use Rattle.planes.proofs.Laws.Column.{cell-one}
 use borrow.Author.Needs.{needs}

@@ -62,14 +62,14 @@ returns-4 c =
     let far : leb (Entry w .args .column) 255 ≡ false = lt-leb _ _ (c .before .if4 .taken) in
     rw (eq-eqb _ _ (w .before .if1 .left), left-not (w .is-well-formed .ensures) (e .if2 .left), low, far) (c .refused4 .ensures)
 
-cast-pixel-of : tie.Need-cast-pixel-of
-cast-pixel-of c = search needs
+cast-point-pixel : tie.Need-cast-point-pixel
+cast-point-pixel c = search needs
 
-cast-pixel-of-2 : tie.Need-cast-pixel-of-2
-cast-pixel-of-2 c = search needs
+cast-point-pixel-2 : tie.Need-cast-point-pixel-2
+cast-point-pixel-2 c = search needs
 
-pixel-of-requires : tie.Need-pixel-of-requires
-pixel-of-requires c κs =
+point-pixel-requires : tie.Need-point-pixel-requires
+point-pixel-requires c κs =
     let l = c .before .before in
     let e = l .before in
     let w = e .before in
@@ -89,8 +89,8 @@ returns-5 c =
     let near : leb (Entry w .args .column) 255 ≡ true = le-leb _ _ (x .if4 .left) in
     rw (eq-eqb _ _ (w .before .if1 .left), left-not (w .is-well-formed .ensures) (e .if2 .left), low, near)
     (ap₂ (λ (colour origin : ℕ). the-answer (Entry w .args .chip) colour origin)
-    (ap (λ (p : Pixel). p .colour) (k .pixel-of .ensures) ∙ pixel-colour (Entry w .args .chip .registers) (Entry w .args .line) (Entry w .args .column) (Entry w .args .vram .now))
-    (c .code .ensures ∙ ap (λ (p : Pixel). originCode (p .origin)) (k .pixel-of .ensures)))
+    (ap (λ (p : Pixel). p .colour) (k .point-pixel .ensures) ∙ pixel-colour (Entry w .args .chip .registers) (Entry w .args .line) (Entry w .args .column) (Entry w .args .vram .now))
+    (c .code .ensures ∙ ap (λ (p : Pixel). originCode (p .origin)) (k .point-pixel .ensures)))
 
 pub point-spec : {M : Type 1} → statement M
 point-spec =
@@ -105,8 +105,8 @@ point-spec =
     returns-3
     refused-requires-4
     returns-4
-    cast-pixel-of
-    cast-pixel-of-2
-    pixel-of-requires
+    cast-point-pixel
+    cast-point-pixel-2
+    point-pixel-requires
     code-requires
     returns-5)

@@ -30,11 +30,11 @@ bit-at-requires c κs =
     let s = c .before in
     (s .before .if1 .left, omega (arith, s .side .ensures, c .if2 .left))
 
-front-requires : tie.Need-front-requires
-front-requires c κs = search needs
+choose-requires : tie.Need-choose-requires
+choose-requires c κs = search needs
 
 returns-3 : tie.Need-returns-3
-returns-3 c = rw (c .before .bit-at .ensures) at (c .front .ensures)
+returns-3 c = rw (c .before .bit-at .ensures) at (c .choose .ensures)
 
 pub colour-at-spec : {M : Type 1} → statement M
 colour-at-spec =
@@ -46,5 +46,5 @@ colour-at-spec =
     add-if2
     returns-2
     bit-at-requires
-    front-requires
+    choose-requires
     returns-3)

@@ -1,4 +1,4 @@
--- `pixel_of` meets its contract.
+-- `point_pixel` meets its contract.
 use mathlib.Core.Path.{_≡_, sym, _∙_}
 use mathlib.Core.List.{[]}
 use Rattle.chip.specs.Modes.{modeOf}
@@ -9,8 +9,8 @@ use Rattle.sprites.specs.Scan.{scanOf}
 use Rattle.scanline.specs.Line.{noSprites, hasSprites, spritesOf}
 use Rattle.point.proofs.Laws.Point.{pixel-over}
 use borrow.Author.Needs.{needs}
-use Rattle.point.proofs.pixel.pixel_of.Statement.{statement}
-use Rattle.point.proofs.pixel.pixel_of.Tie as tie
+use Rattle.point.proofs.pixel.point_pixel.Statement.{statement}
+use Rattle.point.proofs.pixel.point_pixel.Tie as tie
 
 -- the function's entry, seen from the test for sprites
 abbrev Args : tie.After-has-sprites → tie.Start
@@ -49,8 +49,8 @@ returns-2 c =
     let none : value (spritesOf (modeOf (a .r)) (a .r) (a .l)) (a .vram .now) ≡ noSprites = rw (sym (shows h) ∙ c .if1 .left) in
     pixel-over (a .r) (a .l) (a .x) (a .vram .now) none (plane (h .before))
 
-pub pixel-of-spec : {M : Type 1} → statement M
-pixel-of-spec =
+pub point-pixel-spec : {M : Type 1} → statement M
+point-pixel-spec =
     tie.close
     (tie.spec
     mode-of-requires
