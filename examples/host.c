@@ -224,7 +224,7 @@ static int colour_at(const struct chip *c, int line, int column)
     return value(vdp_point(c->block, sizeof c->block, c->vram, sizeof c->vram, (uint32_t)line, (uint32_t)column));
 }
 
-/* What the colour under the pointer comes from: the table or the register that the driver has to look at. */
+/* What the colour under the pointer comes from, in words. */
 static const char *origin_at(const struct chip *c, int line, int column)
 {
     static char sprite[16];

@@ -60,7 +60,7 @@ enum {
  * a sprite of colour 0 does not show and is no origin. The last three are for pixels where neither sprite nor pattern
  * shows, as in Text's margins and while the display is off. */
 enum {
-    VDP_ORIGIN_PATTERN = 32,  /* the pattern plane; in Text also a 0 bit, whose colour is that of the backdrop */
+    VDP_ORIGIN_PATTERN = 32,  /* the pattern plane; in Text also a 0 bit, if the backdrop's colour, which it has, is not 0 */
     VDP_ORIGIN_BACKDROP = 33, /* the backdrop: register 7's low nibble is not 0 */
     VDP_ORIGIN_BLACK = 34,    /* black by default, colour 1: that nibble is 0 and external video is off */
     VDP_ORIGIN_EXTERNAL = 35  /* external video, colour 0: that nibble is 0 and external video is on */

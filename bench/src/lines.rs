@@ -1,12 +1,9 @@
-//! A line with its origins, beside its colours alone. No call draws these by themselves; what comes nearest is a log's run
+//! A line with its origins, beside its colours alone. No call from C draws these by themselves; what comes nearest is a log's run
 //! that draws lines, and a full draw. Each way draws lines 0 to 191, in order.
 
 use crate::c;
 use crate::logs::{log_of, run_whole};
-use crate::pictures::{picture, Picture};
-use difftest::library::LIBRARY;
-
-pub const LINES: usize = 192;
+use crate::pictures::{draw_all, picture, Picture, LINES};
 
 /// Operation 4 of a log draws a line.
 const DRAW_LINE: u8 = 4;
@@ -61,13 +58,5 @@ pub fn by_empty_log(on: &mut Bench) {
 }
 
 pub fn by_full_draw(on: &mut Bench) {
-    let Picture {
-        block,
-        vram,
-        map,
-        frame,
-        notes,
-        ..
-    } = &mut on.lent;
-    assert_eq!((LIBRARY.full_draw)(block, vram, map, frame, notes), 0);
+    draw_all(&mut on.lent);
 }

@@ -11,7 +11,7 @@ mod timing;
 use difftest::library::{Calls, LIBRARY, REFERENCE};
 use difftest::show;
 use logs::{LOGS, RECORDS};
-use pictures::{picture, Picture, CHANGES, MODES, SPRITES};
+use pictures::{picture, Picture, CHANGES, LINES, MODES, SPRITES};
 use points::{POINTS, READS};
 use timing::{all_in_turn, in_turn, time, Times};
 
@@ -165,7 +165,7 @@ fn line_table() {
                 lines::by_full_draw,
             ];
             let [line, log, empty, whole] = all_in_turn(LINE_ROUNDS, &mut lines::bench(mode, sprites), ways);
-            let each = |nanoseconds: f64| nanoseconds / lines::LINES as f64;
+            let each = |nanoseconds: f64| nanoseconds / LINES as f64;
             println!(
                 "{:56}{:>8.1}{:>9.1}{:>11.1}{:>13.1}{:>14.2}",
                 format!("{mode_name}, {sprites_name}"),
@@ -177,14 +177,14 @@ fn line_table() {
             );
         }
     }
-    println!("in a log, in a frame: the colours alone, which no call draws; best times, a 192nd each of the run of a");
+    println!("in a log, in a frame: the colours alone, which no call from C draws; best times, a 192nd each of the run of a");
     println!("log that draws every line, less the run of an empty log, and of a full draw\n");
 }
 
 /// What a point's colour is to take at most, without sprites and with 32.
 const POINT_GOALS: [&str; 2] = ["3 data reads", "1 line"];
 
-/// A point's colour, its origin, a data read and a line drawn, in turn.
+/// A point's colour, its origin, a data read and the lines of a full draw, in turn.
 fn point_table() {
     println!(
         "{:48}{:>8}{:>9}{:>11}{:>9}{:>12}{:>10}{:>16}",
@@ -204,7 +204,7 @@ fn point_table() {
 
 /// Behind the times, the best one in those of a data read and of a line, and the goal.
 fn point_row(title: &str, point: &Times, read: &Times, line: &Times, goal: &str) {
-    let (best, read, line) = (point.best / POINTS as f64, read.best / READS as f64, line.best / points::LINES as f64);
+    let (best, read, line) = (point.best / POINTS as f64, read.best / READS as f64, line.best / LINES as f64);
     println!(
         "{title:48}{best:>8.2}{:>9.2}{read:>11.2}{line:>9.1}{:>12.2}{:>10.3}{goal:>16}",
         point.median / POINTS as f64,

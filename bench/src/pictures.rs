@@ -1,5 +1,6 @@
 //! The pictures that are drawn: full tables in each mode, and three kinds of sprites.
 
+use difftest::library::LIBRARY;
 use difftest::random::Random;
 
 pub const MODES: [&str; 4] = ["Graphics I", "Graphics II", "Multicolor", "Text"];
@@ -28,6 +29,22 @@ pub struct Picture {
     pub notes: Vec<u8>,
     /// What the last refresh answered.
     pub lines: u32,
+}
+
+/// How many lines a full draw has.
+pub const LINES: usize = 192;
+
+/// Every line by its colours alone: no call from C draws one so.
+pub fn draw_all(lent: &mut Picture) {
+    let Picture {
+        block,
+        vram,
+        map,
+        frame,
+        notes,
+        ..
+    } = lent;
+    assert_eq!((LIBRARY.full_draw)(block, vram, map, frame, notes), 0);
 }
 
 /// A picture of random tables, with its sprites.

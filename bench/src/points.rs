@@ -1,26 +1,21 @@
-//! The colour of one point and its origin, beside a data read and a drawn line.
+//! The colour of one point and its origin, beside a data read and a line of a full draw.
 
-use crate::pictures::{picture, Picture};
+use crate::pictures::{draw_all, picture, Picture};
 use difftest::library::LIBRARY;
 
 /// How many calls one turn makes.
 pub const POINTS: usize = 4096;
 pub const READS: usize = 4096;
-pub const LINES: usize = 256;
 
 /// A picture, and where the pointer stands.
 pub struct Bench {
     lent: Picture,
-    line: [u8; 256],
-    origins: [u8; 256],
     place: u32,
 }
 
 pub fn bench(mode: usize, sprites: usize) -> Bench {
     Bench {
         lent: picture(mode, sprites),
-        line: [0; 256],
-        origins: [0; 256],
         place: 0,
     }
 }
@@ -62,7 +57,5 @@ pub fn reads(on: &mut Bench) {
 }
 
 pub fn lines(on: &mut Bench) {
-    let Picture { block, vram, .. } = &mut on.lent;
-    let (drawn, origins) = (&mut on.line, &mut on.origins);
-    walk(&mut on.place, LINES, |number, _| (LIBRARY.draw_line)(block, vram, drawn, origins, number));
+    draw_all(&mut on.lent);
 }

@@ -41,7 +41,7 @@ fn harms(call: Call) -> Vec<Harm> {
     harms
 }
 
-/// The call with one more thing wrong.
+/// The call with this wrong too; of two wrong values for one thing the second counts.
 fn harmed(mut step: Step, harm: Harm) -> Step {
     match (harm, &mut step.call) {
         (Harm::Length(slice, length), _) => step.lengths.push((slice, length)),

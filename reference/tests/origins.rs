@@ -6,8 +6,8 @@ mod common;
 use common::{shapes_board, sprite_board, Lent, EARLY, FULL};
 use reference::pixel::{settle, Pixel, SpriteHere, BACKDROP, BLACK, EXTERNAL, PATTERN};
 
-/// "0 to 31 for sprites, 32 to 35 for the others in the order given": pattern
-/// plane, backdrop, black by default, external.
+/// The codes behind the sprites': pattern plane, backdrop, black by default,
+/// external.
 #[test]
 fn the_codes() {
     assert_eq!([PATTERN, BACKDROP, BLACK, EXTERNAL], [32, 33, 34, 35]);

@@ -2,7 +2,7 @@
 
 
 def mode(r):
-    """From registers 0 and 1. The last is a line without planes: the display is off, or two mode bits are on."""
+    """From registers 0 and 1. "blank" has neither pattern nor sprites: the display is off, or two mode bits are on."""
     m1, m2, m3 = bool(r[1] & 0x10), bool(r[1] & 0x08), bool(r[0] & 0x02)
     if not r[1] & 0x40 or m1 + m2 + m3 > 1:
         return "blank"
@@ -14,7 +14,7 @@ def nibble(byte, high):
 
 
 def pattern_plane(vram, r, line, column):
-    """Its colour, 0 where it does not show, and the addresses that this comes from."""
+    """Its colour, 0 where it does not show, and the words for where that comes from."""
     kind = mode(r)
     if kind == "blank" or kind == "Text" and not 8 <= column <= 247:
         return 0, None

@@ -1,4 +1,5 @@
--- The second line for a point: where its colour comes from, with the addresses that its bytes were read at.
+-- The second line for a point: where its colour comes from, with the address of the sprite's attributes or those of the cell's
+-- bytes.
 use Prim.Native.Nat.{ℕ}
 use mathlib.Core.Bool.{cond}
 use mathlib.Core.List.{List, [], _∷_, _++_}

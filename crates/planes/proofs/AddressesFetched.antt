@@ -1,5 +1,4 @@
--- The addresses of the cell that holds a column are those that are fetched for it: what a driver writer is told to look at is what the
--- colour was read from.
+-- The addresses given for the cell that holds a column are those that are fetched for it.
 use Prim.Native.Nat.{ℕ}
 use mathlib.Core.Path.{_≡_, refl}
 use mathlib.Core.Bool.{true}
