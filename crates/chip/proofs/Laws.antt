@@ -1,5 +1,6 @@
 -- Laws about the definitions of specs/, for this crate's proofs and for those of the crates above.
 pub mod Lists
+pub mod Stored
 pub mod Ranges
 pub mod TwoBytes
 pub mod Bits

@@ -2,10 +2,8 @@
 use Prim.Native.Nat.{ℕ}
 use mathlib.Core.Bool.{Bool, cond, _||_}
 use mathlib.Core.List.{List}
-use lib.Dec.{eqb}
-use lib.ListN.{length, getD}
+use lib.ListN.{getD}
 use Rattle.chip.specs.Lists.{tabulate}
-use Rattle.chip.specs.Ranges.{allBelow}
 use Rattle.fetches.specs.Fetch.{fetched, anyDirty}
 use Rattle.scanline.specs.Line.{lineOf}
 use Rattle.scanline.specs.Calls.{noteAt, colours}
@@ -33,7 +31,3 @@ newNotes redraw r vram map notes = tabulate lineCount (newNote redraw r vram map
 -- What a refresh reports: the count of due lines among the 192.
 abbrev pub dueCount : Bool → List ℕ → List ℕ → List ℕ → ℕ
 dueCount redraw r vram map = countBelow lineCount (due redraw r vram map)
-
--- Whether the map is clear: every byte of it is 0.
-unfoldable pub isClear : List ℕ → Bool
-isClear map = allBelow (length map) (λ k. eqb (getD map k 0) 0)

@@ -1,73 +1,90 @@
 // Redrawing the lines that are due.
 ghost use mathlib.Core.Path.{_≡_};
-ghost use mathlib.Core.Bool.{true, cond};
+ghost use mathlib.Core.Bool.{true};
 ghost use Prim.Native.Nat.{_<_};
 ghost use lib.ListN.{length};
+ghost use Rattle.chip.specs.Lists.{tabulate};
+ghost use Rattle.chip.specs.Modes.{modeOf};
 ghost use Rattle.chip.specs.State.{masked};
-ghost use Rattle.scanline.specs.Calls.{noteAt, colours};
+ghost use Rattle.dirty.specs.Rows.{RowBits};
 ghost use Rattle.frame.specs.Due as due;
-use scanline::draw_row;
-use scanline::line_dirty;
+ghost use Rattle.frame.specs.Lines.{endToEnd, countBelow};
+ghost use Rattle.frame.specs.Row as row;
+use crate::row::redraw_row;
+use chip::Mode;
+use dirty::dirty_rows;
+use dirty::is_clear;
+use rows::byte_words;
+use rows::paints;
+use scanline::has_sprites;
+use sets::sets_of;
+use words::masks;
 
-// What is answered for a line: its note, and whether it was redrawn.
-struct LineAnswer {
-    pub note: u8,
-    pub redrawn: bool,
-}
-
-// Whether line l is "due", as the scope calls it. With the redraw mark set no map is read.
-fn is_due(redraw: bool, r: [u8; 8], vram: &[u8], map: &[u8], l: u8) -> bool
-    requires { ⌜ (masked r ≡ true) × (length (now vram) ≡ 16384) × (length (now map) ≡ 2048) × (l < 192) ⌝ }
-    ensures { λ b. ⌜ b ≡ due.due redraw r (now (vram .entry)) (now (map .entry)) l ⌝ }
+// Which lines are "due", as the scope calls it, a byte for each row of names. With the redraw mark set all are, and no map is read;
+// with it and the map clear none is, and no line is looked at.
+fn due_rows(redraw: bool, r: [u8; 8], vram: &[u8], map: &[u8]) -> [u8; 24]
+    requires { ⌜ (masked r ≡ true) × (length (now vram) ≡ 16384) × (length (now map) ≡ 2048) ⌝ }
+    ensures { λ rows. ⌜ RowBits rows (due.due redraw r (now (vram .entry)) (now (map .entry))) ⌝ }
 {
     if redraw {
-        return true;
+        return [255u8; 24];
     }
-    line_dirty(r, vram, map, l)
+    if is_clear(map) {
+        return [0u8; 24];
+    }
+    dirty_rows(r, vram, map)
 }
 
-// If line l is due, it is "redrawn", in the scope's word: drawn into its part of the frame, and noted anew.
-fn redraw_line(
-    redraw: bool,
-    r: [u8; 8],
-    vram: &[u8],
-    map: &[u8],
-    l: u8,
-    line: &mut [u8],
-    note: u8,
-) -> LineAnswer
-    requires { ⌜ (masked r ≡ true) × (length (now vram) ≡ 16384) × (length (now map) ≡ 2048) × (l < 192) × (length (now line) ≡ 256) ⌝ }
-    ensures { λ t. ⌜ t .redrawn ≡ due.due redraw r (now (vram .entry)) (now (map .entry)) l ⌝ }
-    ensures { λ t. ⌜ t .note ≡ cond (due.due redraw r (now (vram .entry)) (now (map .entry)) l) (noteAt r (now (vram .entry)) l) note ⌝ }
-    ensures { λ _. ⌜ now (line .exit) ≡ cond (due.due redraw r (now (vram .entry)) (now (map .entry)) l) (colours r (now (vram .entry)) l) (now (line .entry)) ⌝ }
+// The sets of all lines' sprites.
+fn line_sets(mode: Mode, r: [u8; 8], vram: &[u8]) -> [u32; 192]
+    requires { ⌜ (mode ≡ modeOf r) × (masked r ≡ true) × (length (now vram) ≡ 16384) ⌝ }
+    ensures { λ s. ⌜ row.LineSets r (now (vram .entry)) s ⌝ }
 {
-    if is_due(redraw, r, vram, map, l) {
-        let drawn = draw_row(r, vram, l, line);
-        return LineAnswer {
-            note: drawn,
-            redrawn: true,
-        };
+    if has_sprites(mode) {
+        return sets_of(r, vram);
     }
-    LineAnswer {
-        note: note,
-        redrawn: false,
-    }
+    [0u32; 192]
 }
 
-// Whether the map is clear. There is no early exit, so that many bytes can be joined at once.
-fn is_clear(map: &[u8]) -> bool
-    ensures { λ b. ⌜ b ≡ due.isClear (now (map .entry)) ⌝ }
+// Redraws the lines of the rows, and counts them. The tables that all rows are drawn with are made once.
+fn redraw_rows(rows: [u8; 24], r: [u8; 8], vram: &[u8], frame: &mut [u8], notes: &mut [u8]) -> u8
+    requires { ⌜ (length rows ≡ 24) × (masked r ≡ true) × (length (now vram) ≡ 16384) × (length (now frame) ≡ 49152) × (length (now notes) ≡ 192) ⌝ }
+    ensures { λ n. ⌜ n ≡ countBelow 192 (row.dueBit rows) ⌝ }
+    ensures { λ _. ⌜ now (frame .exit) ≡ endToEnd 192 (row.lineBy rows r (now (vram .entry)) (now (frame .entry))) ⌝ }
+    ensures { λ _. ⌜ now (notes .exit) ≡ tabulate 192 (row.noteByRows rows r (now (vram .entry)) (now (notes .entry))) ⌝ }
 {
-    let mut joined: u8 = 0;
-    let mut i = 0;
-    while i < map.len() {
-        joined |= map[i];
-        i += 1;
+    let mode = chip::mode_of(r);
+    let masks = masks();
+    let paints = paints(r);
+    let words = byte_words(mode, r, &masks, &paints);
+    let sets = line_sets(mode, r, vram);
+    let mut beside = [0u8; 2048];
+    let mut redrawn: u8 = 0;
+    let mut row = 0;
+    while row < 24 {
+        let at = 2048 * row;
+        let first = 8 * row;
+        let count = redraw_row(
+            mode,
+            r,
+            vram,
+            row,
+            rows[row],
+            &masks,
+            &paints,
+            &words,
+            &sets,
+            &mut beside,
+            &mut frame[at..at + 2048],
+            &mut notes[first..first + 8],
+        );
+        redrawn += count;
+        row += 1;
     }
-    joined == 0
+    redrawn
 }
 
-// Redraws the due lines, and counts them. With redraw mark and map clear none is due, and no line is looked at.
+// Redraws the due lines, and counts them. Where none is due no table is made.
 pub fn redraw_lines(
     redraw: bool,
     r: [u8; 8],
@@ -81,18 +98,9 @@ pub fn redraw_lines(
     ensures { λ _. ⌜ now (frame .exit) ≡ due.newFrame redraw r (now (vram .entry)) (now (map .entry)) (now (frame .entry)) ⌝ }
     ensures { λ _. ⌜ now (notes .exit) ≡ due.newNotes redraw r (now (vram .entry)) (now (map .entry)) (now (notes .entry)) ⌝ }
 {
-    if !redraw & is_clear(map) {
+    let rows = due_rows(redraw, r, vram, map);
+    if is_clear(&rows) {
         return 0;
     }
-    let mut redrawn: u8 = 0;
-    let mut l: u8 = 0;
-    while l < 192 {
-        let i = l as usize;
-        let at = 256 * i;
-        let answer = redraw_line(redraw, r, vram, map, l, &mut frame[at..at + 256], notes[i]);
-        notes[i] = answer.note;
-        redrawn += answer.redrawn as u8;
-        l += 1;
-    }
-    redrawn
+    redraw_rows(rows, r, vram, frame, notes)
 }

@@ -2,7 +2,7 @@
 use Prim.Native.Nat.{ℕ, zero, suc, _<_}
 use native.Mathlib.Nat.{not-suc-le-zero, le-of-suc-le-suc, eq-or-lt-of-le, le-step, lt-suc-self}
 use mathlib.Core.Path.{_≡_, refl, ap, ap₂, sym, subst, _∙_}
-use mathlib.Core.Bool.{Bool, true, false, _&&_, _||_}
+use mathlib.Core.Bool.{Bool, true, false, _&&_, _||_, or-assoc}
 use mathlib.Core.Logic.{⊎-elim}
 use Rattle.chip.specs.Ranges.{allBelow, anyBelow}
 
@@ -47,6 +47,10 @@ each-holds (suc n) p e k h =
     (λ below. each-holds n p (and-left (allBelow n p) (p n) e) k below)
     (eq-or-lt-of-le (le-of-suc-le-suc h))
 
+pub all-hold : (n : ℕ) (p : ℕ → Bool) → ((k : ℕ) → k < n → p k ≡ true) → allBelow n p ≡ true
+all-hold zero p h = refl
+all-hold (suc n) p h = and-both (all-hold n p (λ k below. h k (le-step below))) (h n (lt-suc-self n))
+
 -- one number at which the test holds is enough
 pub one-holds : (n : ℕ) (p : ℕ → Bool) (k : ℕ) → k < n → p k ≡ true → anyBelow n p ≡ true
 unfolding anyBelow
@@ -83,6 +87,12 @@ pub any-same : (n : ℕ) (p q : ℕ → Bool) → ((k : ℕ) → k < n → p k �
 unfolding anyBelow
 any-same zero p q h = refl
 any-same (suc n) p q h = ap₂ _||_ (any-same n p q (λ k below. h k (le-step below))) (h n (lt-suc-self n))
+
+-- the first number apart from the others
+pub any-first : (n : ℕ) (p : ℕ → Bool) → anyBelow (suc n) p ≡ (p 0 || anyBelow n (λ k. p (suc k)))
+unfolding anyBelow
+any-first zero p = sym (or-false (p 0))
+any-first (suc n) p = ap (λ (b : Bool). b || p (suc n)) (any-first n p) ∙ or-assoc (p 0) (anyBelow n (λ k. p (suc k))) (p (suc n))
 
 -- one test or another
 pub any-or : (n : ℕ) (p q : ℕ → Bool) → anyBelow n (λ k. p k || q k) ≡ (anyBelow n p || anyBelow n q)

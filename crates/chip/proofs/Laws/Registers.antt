@@ -11,13 +11,8 @@ use lib.Dec.{eqb, ltb}
 use lib.ListN.{length, getD, set}
 use lib.Seq.{getD-set-same, getD-set-other}
 use borrow.Author.Tests.{eqb-true, eqb-false, eq-eqb, ltb-true}
-use Rattle.chip.specs.Ranges.{allBelow}
 use Rattle.chip.specs.State.{Bytes, masks, kept, register, obeys, masked}
-use Rattle.chip.proofs.Laws.Ranges.{and-both, each-holds}
-
-all-hold : (n : ℕ) (p : ℕ → Bool) → ((k : ℕ) → k < n → p k ≡ true) → allBelow n p ≡ true
-all-hold zero p h = refl
-all-hold (suc n) p h = and-both (all-hold n p (λ k below. h k (omega arith))) (h n (omega arith))
+use Rattle.chip.proofs.Laws.Ranges.{all-hold, each-holds}
 
 -- what is masked twice is masked once
 pub and-twice : (a m : ℕ) → bitAnd (bitAnd a m) m ≡ bitAnd a m

@@ -1,46 +1,27 @@
 -- The map after one more bit is set: that byte is dirty, and all that were still are.
-use Prim.Native.Nat.{ℕ, _+_, _*_, _/_, _%_, _^_, _≤_, _<_, max}
-use native.Mathlib.Nat.{max-le, le-max-left, one-mul, mul-div-cancel}
-use native.Mathlib.Omega.{arith}
+use Prim.Native.Nat.{ℕ, _/_, _%_, _^_, _<_}
 use mathlib.Core.Path.{_≡_, refl, sym, ap, _∙_}
 use mathlib.Core.Bool.{Bool, true, false, _||_}
 use mathlib.Core.List.{List, [], _∷_}
-use lib.Bits.{bitOr, or-step, or-shr, or-comm}
+use lib.Bits.{bitOr}
 use lib.Dec.{eqb}
-use lib.Pow.{pow-pos}
 use lib.ListN.{length, getD, set}
 use lib.Seq.{getD-set-same, getD-set-other}
-use borrow.Author.Tests.{eqb-true, eqb-false, eq-eqb}
+use borrow.Author.Tests.{eqb-true, eqb-false}
 use Rattle.chip.specs.Bits.{bit, setBit}
 use Rattle.chip.specs.Map.{setDirty, isDirty}
+use Rattle.chip.proofs.Laws.Bits.{bit-or, set-same}
 use Rattle.chip.proofs.Laws.Refusals.{differ, neither}
 use Rattle.fetches.specs.Fetch.{Agree, anyDirty}
 
-last-bit : (n m : ℕ) → m < 2 → (n * 2 + m) % 2 ≡ m
-last-bit n m h = omega arith
-
-or-last : (a b : ℕ) → a % 2 ≡ 1 → bitOr a b % 2 ≡ 1
-or-last a b h =
-    let top : max (a % 2) (b % 2) ≤ 1 = max-le (omega arith) (omega arith) in
-    let low : a % 2 ≤ max (a % 2) (b % 2) = le-max-left (a % 2) (b % 2) in
-    let whole = ap (λ (n : ℕ). n % 2) (or-step a b) ∙ last-bit (bitOr (a / 2) (b / 2)) (max (a % 2) (b % 2)) (omega arith) in
-    omega arith
-
 -- a set bit stays set
-bit-kept : (k a b : ℕ) → bit k a ≡ true → bit k (bitOr a b) ≡ true
-bit-kept k a b h =
-    eq-eqb (bitOr a b / 2 ^ k % 2) 1 (ap (λ (n : ℕ). n % 2) (or-shr a b k) ∙ or-last (a / 2 ^ k) (b / 2 ^ k) (eqb-true (a / 2 ^ k % 2) 1 h))
-
-bit-set : (k x : ℕ) → bit k (2 ^ k) ≡ true → bit k (setBit k x) ≡ true
-bit-set k x h = ap (bit k) (or-comm x (2 ^ k)) ∙ bit-kept k (2 ^ k) x h
-
-power-bit : (k : ℕ) → bit k (2 ^ k) ≡ true
-power-bit k = ap (λ (n : ℕ). eqb (n % 2) 1) (ap (λ (m : ℕ). m / 2 ^ k) (sym (one-mul (2 ^ k))) ∙ mul-div-cancel 1 (pow-pos k))
+bit-stays : (k a b : ℕ) → bit k a ≡ true → bit k (bitOr a b) ≡ true
+bit-stays k a b h = bit-or k a b ∙ ap (λ (p : Bool). p || bit k b) h
 
 module _ (map : List ℕ) (i : ℕ) where
   dirty-self : i / 8 < length map → isDirty (setDirty map i) i ≡ true
   dirty-self h =
-      ap (bit (i % 8)) (getD-set-same map (i / 8) (setBit (i % 8) (getD map (i / 8) 0)) 0 h) ∙ bit-set (i % 8) (getD map (i / 8) 0) (power-bit (i % 8))
+      ap (bit (i % 8)) (getD-set-same map (i / 8) (setBit (i % 8) (getD map (i / 8) 0)) 0 h) ∙ set-same (i % 8) (getD map (i / 8) 0)
 
   -- the byte of j's bit, whether i's bit is in it or not
   dirty-kept : (j : ℕ) → i / 8 < length map → isDirty map j ≡ true → isDirty (setDirty map i) j ≡ true
@@ -51,7 +32,7 @@ module _ (map : List ℕ) (i : ℕ) where
           let same : j / 8 ≡ i / 8 = eqb-true (j / 8) (i / 8) e in
           let here : getD (setDirty map i) (j / 8) 0 ≡ setBit (i % 8) (getD map (j / 8) 0) =
           rw same (getD-set-same map (i / 8) (setBit (i % 8) (getD map (i / 8) 0)) 0 h) in
-          ap (bit (j % 8)) here ∙ bit-kept (j % 8) (getD map (j / 8) 0) (2 ^ (i % 8)) m
+          ap (bit (j % 8)) here ∙ bit-stays (j % 8) (getD map (j / 8) 0) (2 ^ (i % 8)) m
       by false e =
           ap (bit (j % 8)) (getD-set-other map (i / 8) (j / 8) (setBit (i % 8) (getD map (i / 8) 0)) 0 (eqb-false (j / 8) (i / 8) e)) ∙ m
 

@@ -11,7 +11,7 @@ use Rattle.frame.specs.Lines.{lineAt}
 use Rattle.frame.specs.Due.{due, newLine}
 use Rattle.frame.proofs.Laws.Lines.{length-line}
 
-either-long : (b : Bool) (x y : List ℕ) → length x ≡ 256 → length y ≡ 256 → length (cond b x y) ≡ 256
+pub either-long : (b : Bool) (x y : List ℕ) → length x ≡ 256 → length y ≡ 256 → length (cond b x y) ≡ 256
 either-long true x y ex ey = ex
 either-long false x y ex ey = ey
 

@@ -12,35 +12,35 @@ use Rattle.chip.proofs.Laws.Lists.{Filled, filled-none, filled-more, tabulated}
 use Rattle.frame.specs.Lines.{endToEnd, countBelow}
 use Rattle.frame.proofs.Laws.Lines.{length-end, line-stored, all-lines, count-more}
 
--- After l lines: they are the new ones, and so are their notes; the rest is as it was; and the due ones are counted.
-pub record Redrawn (line : ℕ → List ℕ) (note : ℕ → ℕ) (is : ℕ → Bool) (frame₀ notes₀ frame notes : List ℕ) (count l : ℕ) : Type 0 where
+-- After l of n lines: they are the new ones, and so are their notes; the rest is as it was; and the due ones are counted.
+pub record Redrawn (n : ℕ) (line : ℕ → List ℕ) (note : ℕ → ℕ) (is : ℕ → Bool) (frame₀ notes₀ frame notes : List ℕ) (count l : ℕ) : Type 0 where
   pub lines : frame ≡ endToEnd l line ++ drop (256 * l) frame₀
-  pub long : length notes ≡ 192
+  pub long : length notes ≡ n
   pub done : Filled notes note l
   pub rest : (k : ℕ) → l ≤ k → getD notes k 0 ≡ getD notes₀ k 0
   pub counted : count ≡ countBelow l is
 
-module _ (line : ℕ → List ℕ) (note : ℕ → ℕ) (is : ℕ → Bool) (wide : (k : ℕ) → k < 192 → length (line k) ≡ 256) where
-  pub redrawn-none : {frame notes : List ℕ} → length notes ≡ 192 → Redrawn line note is frame notes frame notes 0 0
+module _ (n : ℕ) (line : ℕ → List ℕ) (note : ℕ → ℕ) (is : ℕ → Bool) (wide : (k : ℕ) → k < n → length (line k) ≡ 256) where
+  pub redrawn-none : {frame notes : List ℕ} → length notes ≡ n → Redrawn n line note is frame notes frame notes 0 0
   unfolding countBelow endToEnd
   redrawn-none e = record { lines = refl; long = e; done = filled-none; rest = λ k h. refl; counted = refl }
 
-  module _ {frame₀ notes₀ frame notes : List ℕ} {count l : ℕ} (h : l < 192) (g : Redrawn line note is frame₀ notes₀ frame notes count l) where
+  module _ {frame₀ notes₀ frame notes : List ℕ} {count l : ℕ} (h : l < n) (g : Redrawn n line note is frame₀ notes₀ frame notes count l) where
     pub prefix-long : length (endToEnd l line) ≡ 256 * l
     prefix-long = length-end line l (λ k below. wide k (omega arith))
 
-    redrawn-more : (part : List ℕ) (n : ℕ) (b : Bool) → part ≡ line l → n ≡ note l → b ≡ is l → Redrawn line note is frame₀ notes₀ (take (256 * l) frame ++ (part ++ drop 256 (drop (256 * l) frame))) (set notes l n) (count + boolByte b) (l + 1)
-    redrawn-more part n b ep en eb =
+    redrawn-more : (part : List ℕ) (v : ℕ) (b : Bool) → part ≡ line l → v ≡ note l → b ≡ is l → Redrawn n line note is frame₀ notes₀ (take (256 * l) frame ++ (part ++ drop 256 (drop (256 * l) frame))) (set notes l v) (count + boolByte b) (l + 1)
+    redrawn-more part v b ep en eb =
         record {
           lines = line-stored line frame₀ frame l prefix-long (g .lines) part ep;
-          long = length-set notes l n ∙ g .long;
-          done = filled-more n (omega (arith, g .long)) en (g .done);
-          rest = λ k above. getD-set-other notes l k n 0 (omega arith) ∙ g .rest k (omega arith);
+          long = length-set notes l v ∙ g .long;
+          done = filled-more v (omega (arith, g .long)) en (g .done);
+          rest = λ k above. getD-set-other notes l k v 0 (omega arith) ∙ g .rest k (omega arith);
           counted = ap₂ (λ (a : ℕ) (x : Bool). a + boolByte x) (g .counted) eb ∙ sym (count-more l is);
         }
 
   -- the frame keeps its length
-  redrawn-long : {frame₀ notes₀ frame notes : List ℕ} {count l : ℕ} → l ≤ 192 → length frame₀ ≡ 49152 → Redrawn line note is frame₀ notes₀ frame notes count l → length frame ≡ 49152
+  pub redrawn-long : {frame₀ notes₀ frame notes : List ℕ} {count l : ℕ} → l ≤ n → length frame₀ ≡ 256 * n → Redrawn n line note is frame₀ notes₀ frame notes count l → length frame ≡ 256 * n
   redrawn-long {frame₀} {notes₀} {frame} {notes} {count} {l} h e g =
       let front = length-end line l (λ k below. wide k (omega arith)) in
       let back = length-drop (256 * l) frame₀ in
@@ -49,11 +49,11 @@ module _ (line : ℕ → List ℕ) (note : ℕ → ℕ) (is : ℕ → Bool) (wid
       omega arith
 
   -- One line more, lent as a part of the frame of width w.
-  module _ {frame₀ notes₀ frame notes : List ℕ} {count l : ℕ} (h : l < 192) (e : length frame₀ ≡ 49152) (g : Redrawn line note is frame₀ notes₀ frame notes count l) where
-    pub redrawn-line : {part : List ℕ} {n : ℕ} {b : Bool} {w : ℕ} → w ≡ 256 → part ≡ line l → n ≡ note l → b ≡ is l → (length (take (256 * l) frame ++ (part ++ drop w (drop (256 * l) frame))) ≡ 49152) × Redrawn line note is frame₀ notes₀ (take (256 * l) frame ++ (part ++ drop w (drop (256 * l) frame))) (set notes l n) (count + boolByte b) (l + 1)
-    redrawn-line {part} {n} {b} ew ep en eb =
-        let more = redrawn-more h g part n b ep en eb in
+  module _ {frame₀ notes₀ frame notes : List ℕ} {count l : ℕ} (h : l < n) (e : length frame₀ ≡ 256 * n) (g : Redrawn n line note is frame₀ notes₀ frame notes count l) where
+    pub redrawn-line : {part : List ℕ} {v : ℕ} {b : Bool} {w : ℕ} → w ≡ 256 → part ≡ line l → v ≡ note l → b ≡ is l → (length (take (256 * l) frame ++ (part ++ drop w (drop (256 * l) frame))) ≡ 256 * n) × Redrawn n line note is frame₀ notes₀ (take (256 * l) frame ++ (part ++ drop w (drop (256 * l) frame))) (set notes l v) (count + boolByte b) (l + 1)
+    redrawn-line {part} {v} {b} ew ep en eb =
+        let more = redrawn-more h g part v b ep en eb in
         rw ew (redrawn-long (omega arith) e more, more)
 
-  pub redrawn-all : {frame₀ notes₀ frame notes : List ℕ} {count : ℕ} → length frame₀ ≡ 49152 → Redrawn line note is frame₀ notes₀ frame notes count 192 → (frame ≡ endToEnd 192 line) × (notes ≡ tabulate 192 note)
-  redrawn-all {frame₀} {notes₀} {frame} e g = (all-lines line frame₀ frame 192 e (g .lines), tabulated (g .long) (g .done .front))
+  pub redrawn-all : {frame₀ notes₀ frame notes : List ℕ} {count : ℕ} → length frame₀ ≡ 256 * n → Redrawn n line note is frame₀ notes₀ frame notes count n → (frame ≡ endToEnd n line) × (notes ≡ tabulate n note)
+  redrawn-all {frame₀} {notes₀} {frame} e g = (all-lines line frame₀ frame n e (g .lines), tabulated (g .long) (g .done .front))

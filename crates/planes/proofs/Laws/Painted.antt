@@ -31,6 +31,17 @@ painted-more {l} {l₀} {at} {k} {f} c h e p =
 pub painted-as : {new old : List ℕ} {at width : ℕ} {f g : ℕ → ℕ} → ((k : ℕ) → f k ≡ g k) → Painted new old at width f → Painted new old at width g
 painted-as same p = record { long = p .long; inside = λ k h. p .inside k h ∙ same k; left = p .left; right = p .right }
 
+-- What holds of each column before at, and of each of a run from there, holds of each before the run's end.
+pub run-more : (P : ℕ → Type 0) (at width : ℕ) → ((x : ℕ) → x < at → P x) → ((k : ℕ) → k < width → P (at + k)) → (x : ℕ) → x < at + width → P x
+run-more P at width before run x h = by (decLt x at)
+  where
+    by : Dec (x < at) → P x
+    by (yes below) = before x below
+    by (no above) =
+        let k : ℕ = x - at in
+        let e : at + k ≡ x = omega arith in
+        rw e at (run k (omega arith))
+
 -- A line of 256 of which the columns before at are settled, and the others still show what stands behind.
 pub record Shown (line : List ℕ) (colour : ℕ → ℕ) (behind at : ℕ) : Type 0 where
   pub long : length line ≡ 256
@@ -42,16 +53,9 @@ pub shown-more : {new line : List ℕ} {colour f : ℕ → ℕ} {behind at width
 shown-more {new} {line} {colour} {f} {behind} {at} {width} same s p =
     record {
       long = p .long ∙ s .long;
-      done = λ x h. by x h (decLt x at);
+      done = run-more (λ x. getD new x 0 ≡ colour x) at width (λ x below. p .left x below ∙ s .done x below) (λ k h. p .inside k h ∙ same k h);
       rest = λ x h below. p .right x h ∙ s .rest x (omega arith) below;
     }
-  where
-    by : (x : ℕ) → x < at + width → Dec (x < at) → getD new x 0 ≡ colour x
-    by x h (yes below) = p .left x below ∙ s .done x below
-    by x h (no above) =
-        let k : ℕ = x - at in
-        let e : at + k ≡ x = omega arith in
-        rw e at (p .inside k (omega arith) ∙ same k (omega arith))
 
 -- all runs
 pub shown-all : {line : List ℕ} {colour : ℕ → ℕ} {behind at : ℕ} → ((x : ℕ) → at ≤ x → behind ≡ colour x) → Shown line colour behind at → line ≡ tabulate 256 colour

@@ -23,7 +23,7 @@ use Rattle.planes.specs.declared.cell.Cell.{Cell}
 
 module _ (m : Mode) (cells : List Cell) where
   -- at pixel k of cell i, counted
-  in-cell : (x i k : ℕ) → Counted m x i k → planeColour m cells x ≡ pick (getD cells i noCell) k
+  pub in-cell : (x i k : ℕ) → Counted m x i k → planeColour m cells x ≡ pick (getD cells i noCell) k
   unfolding planeColour
   in-cell x i k c =
       let p = counted m x i k c in
@@ -31,11 +31,11 @@ module _ (m : Mode) (cells : List Cell) where
       let below : x < margin m + cellsIn m * cellWidth m = omega (arith, c .column, digits-lt {c = cellWidth m} (c .cell) (c .pixel)) in
       rw (le-leb _ _ above, lt-ltb _ _ below, ← p .0, ← p .1)
 
-  left-of-cells : (x : ℕ) → x < margin m → planeColour m cells x ≡ 0
+  pub left-of-cells : (x : ℕ) → x < margin m → planeColour m cells x ≡ 0
   unfolding planeColour
   left-of-cells x h = rw (lt-leb _ _ h)
 
-  right-of-cells : (x : ℕ) → margin m + cellsIn m * cellWidth m ≤ x → planeColour m cells x ≡ 0
+  pub right-of-cells : (x : ℕ) → margin m + cellsIn m * cellWidth m ≤ x → planeColour m cells x ≡ 0
   unfolding planeColour
   right-of-cells x h = rw (le-ltb _ _ h, and-false)
 

@@ -1,6 +1,6 @@
 -- What a line shows, put together from its plane and its sprites.
 use Prim.Native.Nat.{ℕ}
-use mathlib.Core.Path.{_≡_, refl, sym, ap, _∙_}
+use mathlib.Core.Path.{_≡_, refl, sym, ap, ap₂, _∙_}
 use mathlib.Core.Bool.{false, _||_}
 use mathlib.Core.List.{List, [], _++_}
 use lib.ListN.{getD}
@@ -20,7 +20,7 @@ use Rattle.sprites.specs.Scan.{Found, fifthOf}
 use Rattle.sprites.specs.Pixels.{visible, spriteColours, numberedColours, reach, coincidence}
 use Rattle.sprites.specs.Codes.{firstNumber}
 use Rattle.sprites.proofs.Laws.Codes.{first-number}
-use Rattle.scanline.specs.Line.{Row, noSprites, spritesOf, lineOf, settled, colourAt, settledPixel, pixelAt}
+use Rattle.scanline.specs.Line.{Row, spritesOf, lineOf, settled, colourAt, settledPixel, pixelAt}
 use Rattle.scanline.specs.Notes.{noteBy, noteOf}
 use Rattle.scanline.specs.Calls.{noteAt, colours, origins}
 
@@ -75,14 +75,17 @@ module _ (r : List ℕ) (l : ℕ) (vram : List ℕ) where
         ∙ first-number (numberedColours r (f .sprites) (visible x)) (settle r [] (planeColour m (value (planeOf m r l) vram) x))
         ∙ sym (ap (λ (shown : Row). originCode (pixelAt r shown x .origin)) row-is ∙ ap (λ (g : Found). originCode (settledPixel r g (planeColour m (value (planeOf m r l) vram) x) x .origin)) found))
 
-  -- a line without sprites
-  module _ (none : value (spritesOf m r l) vram ≡ noSprites) where
-    pub plain-note : 32 ≡ noteAt r vram l
-    unfolding coincidence
-    plain-note = ap (noteBy 32) (sym (none-holds reach (λ c. false) (λ k h. refl))) ∙ note-is noSprites none
+    -- a line on which no sprite was found
+    module _ (bare : f .sprites ≡ []) (no-fifth : fifthOf (f .ended) ≡ 32) where
+      no-coincidence : false ≡ coincidence r (f .sprites)
+      unfolding coincidence
+      no-coincidence = rw bare (sym (none-holds reach (λ c. false) (λ k h. refl)))
 
-    pub plain-line : {one : List ℕ} → one ≡ planeLine → one ≡ colours r vram l
-    plain-line {one} e = sprites-over noSprites none e (tabulated (ap lib.ListN.length e ∙ length-tabulate 256 _) (λ i h. refl))
+      pub plain-note : 32 ≡ noteAt r vram l
+      plain-note = ap₂ noteBy (sym no-fifth) no-coincidence ∙ note-is
 
-    pub plain-origins : {one : List ℕ} → one ≡ planeOrigins → one ≡ origins r vram l
-    plain-origins {one} e = numbers-over noSprites none e (tabulated (ap lib.ListN.length e ∙ length-tabulate 256 _) (λ i h. refl))
+      pub plain-line : {one : List ℕ} → one ≡ planeLine → one ≡ colours r vram l
+      plain-line {one} e = sprites-over e (rw bare (tabulated (ap lib.ListN.length e ∙ length-tabulate 256 _) (λ i h. refl)))
+
+      pub plain-origins : {one : List ℕ} → one ≡ planeOrigins → one ≡ origins r vram l
+      plain-origins {one} e = numbers-over e (rw bare (tabulated (ap lib.ListN.length e ∙ length-tabulate 256 _) (λ i h. refl)))

@@ -28,12 +28,15 @@ name-small : (g : Bool) (name : ℕ) → name < 256 → 8 * (name - cond g (name
 name-small true name h = omega arith
 name-small false name h = omega arith
 
+-- a pattern byte of a sprite that covers the line, and the right half's, are among the table's 2,048
+pub pattern-place : (r : List ℕ) (l y name : ℕ) → covers r l y ≡ true → name < 256 → 8 * (name - cond (largeSprites r) (name % 4) 0) + scaled (magnified r) (rowOffset l y) + cond (largeSprites r) 16 0 < 2048
+pattern-place r l y name cov hn =
+    let row = row-small (largeSprites r) (magnified r) (rowOffset l y) (ltb-true _ _ cov) in
+    omega (arith, name-small (largeSprites r) name hn)
+
 pub pattern-inside : (r : List ℕ) → masked r ≡ true → (l y name : ℕ) → covers r l y ≡ true → name < 256 → spritePatternAddress r l y name + cond (largeSprites r) 16 0 < vramSize
 unfolding spritePatternAddress
-pattern-inside r ok l y name cov hn =
-    let row = row-small (largeSprites r) (magnified r) (rowOffset l y) (ltb-true _ _ cov) in
-    let place : 8 * (name - cond (largeSprites r) (name % 4) 0) + scaled (magnified r) (rowOffset l y) + cond (largeSprites r) 16 0 < 2048 = omega (arith, name-small (largeSprites r) name hn) in
-    omega (arith, inside GraphicsI spritePatterns r ok _ place)
+pattern-inside r ok l y name cov hn = omega (arith, inside GraphicsI spritePatterns r ok _ (pattern-place r l y name cov hn))
 
 pub scaled-le : (m : Bool) (d : ℕ) → scaled m d ≤ d
 scaled-le true d = omega arith

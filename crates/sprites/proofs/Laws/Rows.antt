@@ -21,7 +21,7 @@ use Rattle.sprites.specs.declared.sprite.Sprite.{Sprite}
 use Rattle.sprites.proofs.Laws.Columns.{halves}
 
 -- without size the bits of the right half are clear
-shown-bit : (g : Bool) (b i : ℕ) → (g ≡ false → b % 256 ≡ 0) → i < 16 → bit (15 - i) b ≡ (ltb i (cond g 16 8) && bit (15 - i) b)
+pub shown-bit : (g : Bool) (b i : ℕ) → (g ≡ false → b % 256 ≡ 0) → i < 16 → bit (15 - i) b ≡ (ltb i (cond g 16 8) && bit (15 - i) b)
 shown-bit true b i clear h = rw (lt-ltb i 16 h)
 shown-bit false b i clear h = by (decLt i 8)
   where
@@ -95,4 +95,4 @@ module _ (r : List ℕ) (s : Sprite) (read : AsRead r s) (c : ℕ) (low : s .fir
 pub rows-meet : (r : List ℕ) (a b : Sprite) (c v w : ℕ) → v < 2 ^ 16 → RowFrom r a c v → RowFrom r b c w → not (eqb (bitAnd v w) 0) ≡ anyBelow 16 (λ k. hits r a (c + k * bitWidth r) && hits r b (c + k * bitWidth r))
 rows-meet r a b c v w small one other =
     let low : bitAnd v w < 2 ^ 16 = omega (arith, and-le-l v w) in
-    sym (any-bit (bitAnd v w) low) ∙ any-same 16 _ _ (λ k h. bit-and (15 - k) v w ∙ ap₂ _&&_ (one k h) (other k h))
+    sym (any-bit 16 (bitAnd v w) low) ∙ any-same 16 _ _ (λ k h. bit-and (15 - k) v w ∙ ap₂ _&&_ (one k h) (other k h))

@@ -11,7 +11,7 @@ shl-result : tie.Need-shl-result
 shl-result c = search needs
 
 returns : tie.Need-returns
-returns c = ap (bitOr (c .args .x)) (one-shifted (c .args .k) (omega arith))
+returns c = ap (bitOr (c .args .x)) (one-shifted 8 (c .args .k) (omega arith))
 
 pub set-bit-spec : {M : Type 1} → statement M
 set-bit-spec = tie.close (tie.spec shl-result returns)

@@ -1,62 +1,61 @@
--- `status_through` meets its contract.
-use Prim.Native.Nat.{ℕ, _-_, _≤_, _<_}
+-- `status_through`: one note stands for all.
+use Prim.Native.Nat.{_≤_}
 use native.Mathlib.Omega.{arith}
-use native.Mathlib.Numerals.{add-one}
-use mathlib.Core.Path.{_≡_, refl, ap, _∙_}
+use mathlib.Core.Path.{sym, ap, _∙_}
+use mathlib.Core.Bool.{Bool, _&&_}
+use mathlib.Core.Logic.{inl, inr, ⊎-elim}
 use borrow.Author.Needs.{needs}
-use lib.ListN.{length, take}
-use lib.Seq.{take-suc, take-length}
-use Rattle.scanline.specs.Notes.{statusThrough}
-use Rattle.scanline.proofs.Laws.LineDraws.{one-note-more}
+use lib.Dec.{ltb}
+use Rattle.frame.proofs.Laws.Status.{fifth-le, by-one-note}
 use Rattle.frame.proofs.status.status_through.Statement.{statement}
 use Rattle.frame.proofs.status.status_through.Tie as tie
 
-abbrev Inv-loop : tie.InvT-loop
-Inv-loop status notes s₀ l₀ s l = (l ≤ length notes) × (s ≡ statusThrough status (take l notes))
+joined-requires : tie.Need-joined-requires
+joined-requires c κs = search needs
 
-abbrev μ-loop : tie.MeasureT-loop
-μ-loop status notes s₀ l₀ s l = length notes - l
+bit-requires : tie.Need-bit-requires
+bit-requires c κs = search needs
 
-loop-holds : tie.Need-loop-holds Inv-loop μ-loop
-unfolding statusThrough
-loop-holds c = (omega arith, refl)
+first-fifth-requires : tie.Need-first-fifth-requires
+first-fifth-requires c κs = search needs
 
-shared-slice-read-status-after : tie.Need-shared-slice-read-status-after Inv-loop μ-loop
-shared-slice-read-status-after c = omega arith
+mul-status-after : tie.Need-mul-status-after
+mul-status-after c = search needs
 
-status-after-requires : tie.Need-status-after-requires Inv-loop μ-loop
+add-status-after : tie.Need-add-status-after
+add-status-after c =
+    let at = c .before in
+    let notes = at .before .before .before .before .args .notes .now in
+    let small : at .if1 .fifth ≤ 32 = ⊎-elim (λ w. omega (arith, fifth-le notes, w .1 .ensures, w .2)) (λ w. omega (arith, w .1)) (at .if1 .came) in
+    omega arith
+
+status-after-requires : tie.Need-status-after-requires
 status-after-requires c κs = search needs
 
-add-l : tie.Need-add-l Inv-loop μ-loop
-add-l c = omega arith
-
-loop-less : tie.Need-loop-less Inv-loop μ-loop
-loop-less c = omega arith
-
-loop-again : tie.Need-loop-again Inv-loop μ-loop
-loop-again c =
-    let h = c .before .before .before .loop in
-    let a = c .before .before .before .before .before .args in
-    let room : h .l < length (a .notes .now) = omega arith in
-    (omega arith, rw (add-one, take-suc (a .notes .now) (h .l) 0, one-note-more) (rw (h .inv .1) at (c .status-after .ensures)))
-
-returns : tie.Need-returns Inv-loop μ-loop
+returns : tie.Need-returns
 returns c =
-    let h = c .before .loop in
-    let a = c .before .before .before .args in
-    let all : h .l ≡ length (a .notes .now) = omega arith in
-    h .inv .1 ∙ ap (λ (n : ℕ). statusThrough (a .status) (take n (a .notes .now))) all ∙ ap (statusThrough (a .status)) (take-length (a .notes .now))
+    let at = c .before .before in
+    let start = at .before .before .before .before in
+    let any = at .before .before .joined .result in
+    let test = ap (λ (b : Bool). b && ltb (start .args .status) 64) (at .before .bit .ensures) in
+    c .status-after .ensures
+    ∙ by-one-note
+    (start .args .notes .now)
+    (start .args .status)
+    (at .if1 .fifth)
+    any
+    (omega arith)
+    (at .before .before .joined .ensures)
+    (⊎-elim (λ w. inl (sym test ∙ w .0 .taken, w .2 ∙ w .1 .ensures)) (λ w. inr (sym test ∙ w .0 .left, w .1)) (at .if1 .came))
 
 pub status-through-spec : {M : Type 1} → statement M
 status-through-spec =
     tie.close
     (tie.spec
-    Inv-loop
-    μ-loop
-    loop-holds
-    shared-slice-read-status-after
+    joined-requires
+    bit-requires
+    first-fifth-requires
+    mul-status-after
+    add-status-after
     status-after-requires
-    add-l
-    loop-less
-    loop-again
     returns)

@@ -1,5 +1,5 @@
 -- `draw_row` meets its contract.
-use mathlib.Core.Path.{_≡_, sym, _∙_}
+use mathlib.Core.Path.{_≡_, refl, sym, _∙_}
 use Rattle.chip.specs.Modes.{modeOf}
 use Rattle.fetches.specs.Fetch.{value}
 use Rattle.sprites.specs.Scan.{scanOf}
@@ -52,7 +52,7 @@ returns-2 c =
     let h = c .before in
     let a = Args h in
     let none : value (spritesOf (modeOf (a .args .r)) (a .args .r) (a .args .l)) (a .args .vram .now) ≡ noSprites = rw (sym (shows h) ∙ c .if1 .left) in
-    (plain-note (a .args .r) (a .args .l) (a .args .vram .now) none, plain-line (a .args .r) (a .args .l) (a .args .vram .now) none (plane (h .before .before .before)))
+    (plain-note (a .args .r) (a .args .l) (a .args .vram .now) noSprites none refl refl, plain-line (a .args .r) (a .args .l) (a .args .vram .now) noSprites none refl refl (plane (h .before .before .before)))
 
 pub draw-row-spec : {M : Type 1} → statement M
 draw-row-spec =

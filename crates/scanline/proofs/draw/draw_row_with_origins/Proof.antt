@@ -1,5 +1,5 @@
 -- `draw_row_with_origins` meets its contract.
-use mathlib.Core.Path.{_≡_, sym, _∙_}
+use mathlib.Core.Path.{_≡_, refl, sym, _∙_}
 use Rattle.chip.specs.Modes.{modeOf}
 use Rattle.fetches.specs.Fetch.{value}
 use Rattle.sprites.specs.Scan.{scanOf}
@@ -67,8 +67,8 @@ returns-2 c =
     let p = Plane (c .before) in
     let a = Entry p .args in
     let none : value (spritesOf (modeOf (a .r)) (a .r) (a .l)) (a .vram .now) ≡ noSprites = rw (sym (shows (c .before)) ∙ c .if1 .left) in (
-      plain-note (a .r) (a .l) (a .vram .now) none,
-      (plain-line (a .r) (a .l) (a .vram .now) none (colours p), plain-origins (a .r) (a .l) (a .vram .now) none (codes p)),
+      plain-note (a .r) (a .l) (a .vram .now) noSprites none refl refl,
+      (plain-line (a .r) (a .l) (a .vram .now) noSprites none refl refl (colours p), plain-origins (a .r) (a .l) (a .vram .now) noSprites none refl refl (codes p)),
     )
 
 pub draw-row-with-origins-spec : {M : Type 1} → statement M

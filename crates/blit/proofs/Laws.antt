@@ -1,0 +1,5 @@
+-- Laws about the definitions of specs/.
+pub mod Shifted
+pub mod Wide
+pub mod Meet
+pub mod Paint

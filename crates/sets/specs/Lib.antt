@@ -1,0 +1,2 @@
+-- The sprites that cover a line, as a set.
+pub mod Sets
