@@ -3,6 +3,7 @@
 use crate::library::{Calls, LIBRARY, REFERENCE};
 use crate::logs::{Host, Log};
 use crate::points::{self, Points};
+use crate::refreshes::Refreshes;
 use crate::{replay, show};
 use reference::block::read_block;
 use reference::line::sprites_meet;
@@ -73,6 +74,8 @@ pub enum Call {
     PutStatus(u8),
     /// The host sets the block's count of lost first bytes.
     PutLost(u16),
+    /// The host fills the frame with a byte that is no colour, and the notes with another.
+    PutPicture(u8, u8),
     /// The host changes a byte of the snapshot, and its sum with it or not.
     PutSnapshot(usize, u8, bool),
 }
@@ -125,7 +128,7 @@ impl Call {
             Call::Point(..) => Some(16),
             Call::Origin(..) => Some(17),
             Call::Replay(_) | Call::Show | Call::LinePoints(_) => None,
-            Call::PutStatus(_) | Call::PutLost(_) | Call::PutSnapshot(..) => None,
+            Call::PutStatus(_) | Call::PutLost(_) | Call::PutPicture(..) | Call::PutSnapshot(..) => None,
         }
     }
 
@@ -152,7 +155,7 @@ impl Call {
             Call::RunLog(_) => &[Slice::Block, Slice::Vram, Slice::Map, Slice::Line, Slice::Outcome],
             Call::Replay(_) | Call::Show => &[Slice::Snapshot],
             Call::ReadLog(_) | Call::WriteLog(_) | Call::LinePoints(_) => &[],
-            Call::PutStatus(_) | Call::PutLost(_) | Call::PutSnapshot(..) => &[],
+            Call::PutStatus(_) | Call::PutLost(_) | Call::PutPicture(..) | Call::PutSnapshot(..) => &[],
         }
     }
 
@@ -198,6 +201,7 @@ impl std::fmt::Display for Step {
         match self.call {
             Call::PutStatus(byte) => write!(f, "(host) block[13] = {byte:02X}")?,
             Call::PutLost(count) => write!(f, "(host) count of lost first bytes = {count}")?,
+            Call::PutPicture(frame, note) => write!(f, "(host) frame all {frame:02X}, notes all {note:02X}")?,
             Call::PutSnapshot(at, byte, sum) => {
                 let sum = if sum { ", and the sum with it" } else { "" };
                 write!(f, "(host) snapshot[{at}] = {byte:02X}{sum}")?
@@ -375,6 +379,11 @@ impl Side {
                 block[LOST..].copy_from_slice(&count.to_le_bytes());
                 0
             }
+            Call::PutPicture(byte, note) => {
+                frame.fill(byte);
+                notes.fill(note);
+                0
+            }
             Call::PutSnapshot(at, byte, sum) => {
                 snapshot[at] = byte;
                 if sum {
@@ -420,6 +429,7 @@ pub struct Reached {
     pub replayed: [u64; 2],
     pub shown: u64,
     pub points: Points,
+    pub foreign: Refreshes,
 }
 
 /// The calls that drop a waiting first byte.
@@ -450,7 +460,7 @@ pub struct Difference {
 pub fn run(case: &Case, reached: &mut Reached) -> Result<(), Difference> {
     let (mut library, mut second) = (Side::new(case), Side::new(case));
     // The start's frame is foreign. It follows VRAM from the first full draw on, or the first
-    // refresh with the redraw mark set.
+    // refresh with the redraw mark set, until the host puts another.
     let mut follows = false;
     for (at, step) in case.steps.iter().enumerate() {
         let before = library.lent_block(step);
@@ -459,10 +469,13 @@ pub fn run(case: &Case, reached: &mut Reached) -> Result<(), Difference> {
         second.put_log(&log, &records);
         // What the same calls made singly start from, and what a point leaves as it is.
         let host = matches!(step.call, Call::RunLog(_) | Call::Point(..)).then(|| library.host(step));
+        // What a refresh over a foreign picture is counted by.
+        let over = foreign_before(&case.steps, at).map(|foreign| (foreign, library.slice(Slice::Map).to_vec()));
         let (answer, expected) = (library.make(&LIBRARY, step), second.make(&REFERENCE, step));
         let mut found = compare(answer, expected, &library, &second);
         let refreshed = step.call == Call::Refresh && answer < 256;
         follows |= step.call == Call::FullDraw && answer < 256 || refreshed && before[14] == 1;
+        follows &= !matches!(step.call, Call::PutPicture(..));
         count_hidden(step, expected, before[13], follows, &mut second, reached);
         if found.is_none() && follows && refreshed {
             found = full_draw_differs(before.clone(), &mut library, reached);
@@ -488,8 +501,20 @@ pub fn run(case: &Case, reached: &mut Reached) -> Result<(), Difference> {
             return Err(Difference { step: at, what });
         }
         count(step, answer, &before, library.slice(Slice::Block), reached);
+        if let (true, Some((foreign, map))) = (refreshed, over) {
+            let frame = library.slice(Slice::Frame);
+            reached.foreign.count(&before, &map, frame, foreign);
+        }
     }
     Ok(())
+}
+
+/// The byte that the host fills the frame with right before a refresh.
+fn foreign_before(steps: &[Step], at: usize) -> Option<u8> {
+    match (steps[..at].last()?.call, steps[at].call) {
+        (Call::PutPicture(foreign, _), Call::Refresh) => Some(foreign),
+        _ => None,
+    }
 }
 
 /// The log and record bytes that a step lends; none where it has no log. What is to be written over is

@@ -7,6 +7,7 @@ pub mod logs;
 pub mod meetings;
 pub mod points;
 pub mod random;
+pub mod refreshes;
 pub mod refusals;
 pub mod replay;
 pub mod scenes;

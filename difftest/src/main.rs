@@ -1,15 +1,15 @@
 //! difftest [--seed N] [--first N] [--cases N] [--faults | --gate]
 //!
-//! Compares N states, from the first on, a fourth as many cases of points, and a tenth as many lists of calls
-//! and cases of logs; without --cases a fixed number, and no more than two minutes. Before them come meetings
-//! of sprites and calls that are refused, the same in every run. --faults plants each of the reference's faults
-//! in turn and wants it found; --gate does both.
+//! Compares N states, from the first on, a fourth as many cases of points, a tenth as many lists of calls and
+//! cases of logs, and a twentieth as many lists of refreshes; without --cases a fixed number, and no more than two
+//! minutes. Before them come meetings of sprites and calls that are refused, the same in every run. --faults plants
+//! each of the reference's faults in turn and wants it found; --gate does both.
 
 use difftest::calls::{run, Case, Lost, Reached, BLOCKS, DROPPING, HIDDEN, LENGTHS, LOST_FROM, NAMES, REFUSED};
 use difftest::lists::{list_case, log_case, place, state_case};
 use difftest::points::{self, Counts};
 use difftest::scenes::{KINDS, MODES};
-use difftest::{meetings, refusals, shrink};
+use difftest::{meetings, refreshes, refusals, shrink};
 use reference::faults;
 use std::time::{Duration, Instant};
 
@@ -75,7 +75,7 @@ fn options() -> Result<Options, String> {
     Ok(options)
 }
 
-/// A state, a list, a case of points, logs or refusals, or a meeting of sprites by its number.
+/// A state, a list of calls or of refreshes, a case of points, logs or refusals, or a meeting of sprites by its number.
 #[derive(Clone, Copy)]
 enum Numbered {
     Meeting(u64),
@@ -84,6 +84,7 @@ enum Numbered {
     Points(u64),
     Logs(u64),
     List(u64),
+    Refreshes(u64),
 }
 
 impl Numbered {
@@ -95,17 +96,19 @@ impl Numbered {
             Numbered::Points(number) => points::case(seed, number),
             Numbered::Logs(number) => log_case(seed, number),
             Numbered::List(number) => list_case(seed, number),
+            Numbered::Refreshes(number) => refreshes::case(seed, number),
         }
     }
 
-    /// The words that run it again; points come after their four states, logs and a list after their ten, and all
-    /// meetings and refusals come first.
+    /// The words that run it again; points come after their four states, logs and a list after their ten, refreshes after
+    /// their twenty, and all meetings and refusals come first.
     fn alone(self, seed: u64) -> String {
         let first = match self {
             Numbered::Meeting(_) | Numbered::Refusals(_) => return "--cases 0".to_string(),
             Numbered::State(number) => number,
             Numbered::Points(number) => 4 * number + 3,
             Numbered::Logs(number) | Numbered::List(number) => 10 * number + 9,
+            Numbered::Refreshes(number) => 20 * number + 19,
         };
         format!("--seed {seed} --first {first} --cases 1")
     }
@@ -123,6 +126,7 @@ impl std::fmt::Display for Numbered {
             Numbered::Points(number) => write!(f, "points {number} ({})", points::name(number)),
             Numbered::Logs(number) => write!(f, "logs {number}"),
             Numbered::List(number) => write!(f, "list {number}"),
+            Numbered::Refreshes(number) => write!(f, "refreshes {number} ({})", refreshes::name(number)),
         }
     }
 }
@@ -137,14 +141,15 @@ fn all_refusals() -> impl Iterator<Item = Numbered> {
     (0..refusals::count()).map(Numbered::Refusals)
 }
 
-/// The random ones, in order: points after every four states, logs and a list after every ten.
+/// The random ones, in order: points after every four states, logs and a list after every ten, refreshes after every twenty.
 fn random(options: &Options) -> impl Iterator<Item = Numbered> {
     (options.first..options.first + options.cases).flat_map(|number| {
         let after_four = (number % 4 == 3).then_some(Numbered::Points(number / 4));
         let after_ten = [Numbered::Logs(number / 10), Numbered::List(number / 10)];
         let after_ten = after_ten.into_iter().filter(move |_| number % 10 == 9);
+        let after_twenty = (number % 20 == 19).then_some(Numbered::Refreshes(number / 20));
         let state = std::iter::once(Numbered::State(number));
-        state.chain(after_four).chain(after_ten)
+        state.chain(after_four).chain(after_ten).chain(after_twenty)
     })
 }
 
@@ -159,6 +164,7 @@ struct Compared {
     points: u64,
     logs: u64,
     lists: u64,
+    refreshes: u64,
 }
 
 impl Compared {
@@ -170,6 +176,7 @@ impl Compared {
             Numbered::Points(_) => self.points += 1,
             Numbered::Logs(_) => self.logs += 1,
             Numbered::List(_) => self.lists += 1,
+            Numbered::Refreshes(_) => self.refreshes += 1,
         }
     }
 }
@@ -254,8 +261,15 @@ fn hex(bytes: &[u8]) -> String {
 fn summary(options: &Options, compared: &Compared, reached: &Reached) {
     let states: u64 = compared.states.iter().sum();
     println!(
-        "seed {}, {} meetings of sprites, {states} states, {} lists, {} cases of logs, {} of points, {} of refusals",
-        options.seed, compared.meetings, compared.lists, compared.logs, compared.points, compared.refusals
+        "seed {}, {} meetings of sprites, {states} states, {} lists, {} lists of refreshes, {} cases of logs, {} of points, \
+         {} of refusals",
+        options.seed,
+        compared.meetings,
+        compared.lists,
+        compared.refreshes,
+        compared.logs,
+        compared.points,
+        compared.refusals
     );
     let modes: Vec<String> = MODES
         .iter()
@@ -306,6 +320,10 @@ fn summary(options: &Options, compared: &Compared, reached: &Reached) {
             let counts: Vec<String> = counts.iter().map(|(what, count)| format!("{what} {count}")).collect();
             println!("points {who}, {place}: {}", counts.join(", "));
         }
+    }
+    for (place, counts) in reached.foreign.each() {
+        let counts: Vec<String> = counts.iter().map(|(what, count)| format!("{what} {count}")).collect();
+        println!("refreshes in {place}: {}", counts.join(", "));
     }
 }
 
@@ -428,6 +446,11 @@ fn missed(compared: &Compared, reached: &Reached) -> Vec<String> {
             }
         }
     }
+    for (place, counts) in reached.foreign.each() {
+        for (what, _) in counts.into_iter().filter(|&(_, count)| count == 0) {
+            missed.push(format!("a refresh in {place}: {what}"));
+        }
+    }
     for (operation, _) in reached.operations.iter().enumerate().filter(|&(_, &count)| count == 0) {
         missed.push(format!("operation {operation} in a run"));
     }
@@ -441,7 +464,8 @@ fn plant_all(options: &Options, passed: &mut u64, failed: &mut u64) {
     let hidden = faults::ONLY_VISIBLE_COINCIDE..=faults::LAST_COLUMNS_FORGOTTEN;
     let of_points = faults::POINT_OF_NEIGHBOUR..=faults::POINT_TEXT_BIT_6;
     for number in 1..=faults::LAST {
-        if !of_points.contains(&number) && !outermost.contains(&number) {
+        let of_rows = faults::OF_ROWS.contains(&number);
+        if !of_points.contains(&number) && !outermost.contains(&number) && !of_rows {
             let among = format!("{} states, their points, logs and lists", options.cases);
             plant(number, random(options), &among, options, passed, failed);
         }
@@ -450,6 +474,11 @@ fn plant_all(options: &Options, passed: &mut u64, failed: &mut u64) {
             let points = random(options).filter(|numbered| matches!(numbered, Numbered::Points(_)));
             let among = format!("{} cases of points", options.cases / 4);
             plant(number, points, &among, options, passed, failed);
+        }
+        if of_rows {
+            let refreshes = random(options).filter(|numbered| matches!(numbered, Numbered::Refreshes(_)));
+            let among = format!("{} lists of refreshes", options.cases / 20);
+            plant(number, refreshes, &among, options, passed, failed);
         }
         if hidden.contains(&number) {
             plant(number, all_meetings(), "the meetings", options, passed, failed);

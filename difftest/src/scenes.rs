@@ -35,7 +35,7 @@ pub fn scene(random: &mut Random, mode: usize, kind: usize) -> (Vec<u8>, Vec<u8>
     (block, vram)
 }
 
-fn block(random: &mut Random, mode: usize, kind: usize) -> Vec<u8> {
+pub(crate) fn block(random: &mut Random, mode: usize, kind: usize) -> Vec<u8> {
     let mut block = vec![0; 17];
     for (register, mask) in MASKS.into_iter().enumerate() {
         block[register] = random.byte() & mask;
@@ -97,7 +97,7 @@ pub fn status(random: &mut Random) -> u8 {
 }
 
 /// VRAM from empty to full of ones.
-fn fill(random: &mut Random, vram: &mut [u8], kind: usize) {
+pub(crate) fn fill(random: &mut Random, vram: &mut [u8], kind: usize) {
     random.fill(vram);
     let thinner = match kind {
         0 => 0,
@@ -112,7 +112,7 @@ fn fill(random: &mut Random, vram: &mut [u8], kind: usize) {
 }
 
 /// Writes the attribute table, and sometimes full sprite patterns.
-fn sprites(random: &mut Random, block: &[u8], vram: &mut [u8], kind: usize) {
+pub(crate) fn sprites(random: &mut Random, block: &[u8], vram: &mut [u8], kind: usize) {
     if random.one_in(4) {
         let at = usize::from(block[6]) * 2048;
         vram[at..at + 2048].fill(0xFF);

@@ -1,6 +1,7 @@
 //! Known mistakes that can be planted, one at a time, in the running thread.
 
 use std::cell::Cell;
+use std::ops::RangeInclusive;
 
 /// The terminator counts only when its sprite covers the line.
 pub const TERMINATOR_MUST_COVER: u32 = 1;
@@ -176,8 +177,31 @@ pub const TEXT_0_IS_BACKDROP: u32 = 81;
 /// Where coloured sprites overlap, the origin is the one behind the others.
 pub const HIDDEN_IS_ORIGIN: u32 = 82;
 
+/// Refresh looks at the colours only where a name or a pattern is marked too.
+pub const COLOURS_NOT_ALONE: u32 = 83;
+/// Refresh looks at the sprite patterns only where an attribute is marked too.
+pub const SPRITE_PATTERNS_NOT_ALONE: u32 = 84;
+/// Refresh takes the last byte of the patterns as not marked, where it alone of
+/// them is.
+pub const LAST_PATTERN_BYTE: u32 = 85;
+/// Refresh takes the last byte of the attributes as not marked, where it
+/// alone of them is.
+pub const LAST_ATTRIBUTE: u32 = 86;
+/// Refresh takes the last byte of the sprite patterns as not marked, where it
+/// alone of them is.
+pub const LAST_SPRITE_PATTERN_BYTE: u32 = 87;
+/// Refresh takes the sprites' colour bytes as not marked.
+pub const SPRITE_COLOUR_FORGOTTEN: u32 = 88;
+/// Refresh in Multicolor looks at all eight bytes of a pattern for each line.
+pub const ALL_EIGHT_BYTES: u32 = 89;
+/// Refresh redraws the next line where one line of a row is due.
+pub const ONE_LINE_TOO_FAR: u32 = 90;
+/// Refresh redraws the whole row where several of its lines are due, and counts
+/// those.
+pub const ROW_REDRAWN_WHOLE: u32 = 91;
+
 /// The highest fault number.
-pub const LAST: u32 = 82;
+pub const LAST: u32 = 91;
 
 /// A few words for each fault, from 1 up.
 pub const NAMES: [&str; LAST as usize] = [
@@ -263,6 +287,15 @@ pub const NAMES: [&str; LAST as usize] = [
     "origins are written by a refused call",
     "a 0 bit in Text is the backdrop's",
     "a hidden sprite is an origin",
+    "colours are not looked at by themselves",
+    "sprite patterns are not looked at by themselves",
+    "the last byte of the patterns alone is forgotten",
+    "the last attribute alone is forgotten",
+    "the last sprite pattern byte alone is forgotten",
+    "a sprite's colour byte is forgotten",
+    "Multicolor looks at all eight bytes of a pattern",
+    "one due line of a row is drawn one too far down",
+    "several due lines of a row have all of it redrawn",
 ];
 
 /// The mistakes about a pixel's origin, which a line and a point both make.
@@ -275,6 +308,11 @@ pub const OF_ORIGINS: [u32; 7] = [
     TEXT_0_IS_BACKDROP,
     HIDDEN_IS_ORIGIN,
 ];
+
+/// The mistakes about which bytes are marked.
+pub const OF_MARKS: RangeInclusive<u32> = COLOURS_NOT_ALONE..=ALL_EIGHT_BYTES;
+/// Those, and the mistakes about which lines of a row are redrawn.
+pub const OF_ROWS: RangeInclusive<u32> = COLOURS_NOT_ALONE..=ROW_REDRAWN_WHOLE;
 
 /// The ways to miscount Text's cells, for a point and for a line: 7 wide, from
 /// column 7, a bit too far.

@@ -1,14 +1,18 @@
 //! Drawing into lent slices: one line, all lines, or the lines due.
 
+use std::ops::Range;
+
 use crate::faults::{self, planted};
 use crate::line::{
-    fetches, note_coincidence, note_fifth, picture, status_after, status_with_fifth, Picture,
+    fetches, mode, note_coincidence, note_fifth, picture, status_after, status_with_fifth, Mode,
+    Picture,
 };
 use crate::refusal::{self, refused, Answer};
 use crate::state::{
     byte_at, map_has, put_at, State, C, FRAME_BYTES, LINES, LINE_BYTES, MAP_BYTES, NOTE_BYTES,
     VRAM_BYTES,
 };
+use crate::tables::tables;
 
 /// Draws one line into the lent 256 bytes, its origins into 256 more, and
 /// updates status from it.
@@ -88,7 +92,38 @@ fn write_line(state: &State, vram: &[u8], frame: &mut [u8], notes: &mut [u8], nu
 /// A line is due with the redraw mark set or a fetched byte in the map.
 pub fn is_due(state: &State, vram: &[u8], map: &[u8], number: usize) -> bool {
     let fetched = fetches(state, vram, number as u8);
-    state.redraw || fetched.into_iter().any(|at| map_has(map, at))
+    state.redraw || fetched.into_iter().any(|at| is_marked(state, map, at))
+}
+
+/// A fetched byte is marked when it is in the map, but for the planted mistakes.
+fn is_marked(state: &State, map: &[u8], at: usize) -> bool {
+    let marked = map_has(map, at);
+    if !faults::OF_MARKS.contains(&faults::number()) {
+        return marked;
+    }
+    let tables = tables(state);
+    let is_any = |mut bytes: Range<usize>| bytes.any(|at| map_has(map, at));
+    // A table is taken as not marked where its last byte alone is.
+    let is_beside_last =
+        |table: Range<usize>| !table.contains(&at) || is_any(table.start..table.end - 1);
+    match faults::number() {
+        faults::COLOURS_NOT_ALONE if tables.colours.contains(&at) => {
+            marked && (is_any(tables.names) || is_any(tables.patterns))
+        }
+        faults::SPRITE_PATTERNS_NOT_ALONE if tables.sprite_patterns.contains(&at) => {
+            marked && is_any(tables.attributes)
+        }
+        faults::LAST_PATTERN_BYTE => marked && is_beside_last(tables.patterns),
+        faults::LAST_ATTRIBUTE => marked && is_beside_last(tables.attributes),
+        faults::LAST_SPRITE_PATTERN_BYTE => marked && is_beside_last(tables.sprite_patterns),
+        faults::SPRITE_COLOUR_FORGOTTEN if tables.attributes.contains(&at) => marked && at % 4 != 3,
+        faults::ALL_EIGHT_BYTES
+            if mode(state) == Mode::Multicolor && tables.patterns.contains(&at) =>
+        {
+            is_any(at / 8 * 8..at / 8 * 8 + 8)
+        }
+        _ => marked,
+    }
 }
 
 /// Redraws the lines due and no other, then takes status from all the notes,
@@ -108,7 +143,8 @@ pub fn refresh(
         *due = is_due(state, vram, map, number);
     }
     let before = (frame.to_vec(), notes.to_vec());
-    for number in (0..LINES).filter(|&number| is_redrawn(state, due[number])) {
+    let redrawn = redrawn(state, due);
+    for number in (0..LINES).filter(|&number| redrawn[number]) {
         write_line(state, vram, frame, notes, number);
     }
     if planted(faults::NOTE_NOT_WRITTEN) {
@@ -128,15 +164,19 @@ pub fn refresh(
     Answer::accepted(count as u8)
 }
 
-/// A line is redrawn when it is due, but for two of the planted mistakes.
-fn is_redrawn(state: &State, due: bool) -> bool {
-    if planted(faults::ALL_REDRAWN) {
-        true
-    } else if planted(faults::REFRESH_ONLY_COUNTS) {
-        state.redraw
-    } else {
-        due
+/// The lines due are redrawn, but for four of the planted mistakes.
+fn redrawn(state: &State, mut due: [bool; LINES]) -> [bool; LINES] {
+    for row in due.chunks_mut(8) {
+        let count = row.iter().filter(|&&due| due).count();
+        match (faults::number(), count) {
+            (faults::ALL_REDRAWN, _) => row.fill(true),
+            (faults::REFRESH_ONLY_COUNTS, _) => row.fill(state.redraw),
+            (faults::ONE_LINE_TOO_FAR, 1) => row.rotate_right(1),
+            (faults::ROW_REDRAWN_WHOLE, 2..=7) => row.fill(true),
+            _ => {}
+        }
     }
+    due
 }
 
 /// Status goes through the notes of all lines in order, redrawn or kept.

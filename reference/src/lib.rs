@@ -17,6 +17,7 @@ pub mod show;
 pub mod snapshot;
 mod sprites;
 pub mod state;
+pub mod tables;
 
 pub use frame::{draw_line, full_draw, refresh};
 pub use log::{read_log, run_log, write_log};

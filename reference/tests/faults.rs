@@ -904,3 +904,82 @@ fn fault_82_the_sprite_behind() {
     let (right, wrong) = ([(5, 0), (5, 0), (7, 1)], [(5, 0), (5, 1), (7, 1)]);
     shows(faults::HIDDEN_IS_ORIGIN, case, right, wrong);
 }
+
+/// A board whose first cell alone has name 255, with a sprite of name 255 on
+/// lines 50 to 57, the last one of the list.
+fn board_of_ends(register_1: u8) -> Lent {
+    let mut lent = board(register_1, &[]);
+    lent.vram[0] = 255;
+    lent.sprite(31, [49, 10, 255, 7]);
+    lent
+}
+
+/// Writes at these addresses: the refresh's answer, and the lines that it
+/// redrew.
+fn redrawn(register_1: u8, addresses: &[u16]) -> (u32, Vec<usize>) {
+    let mut lent = board_of_ends(register_1);
+    lent.frame.fill(0xEE);
+    for &at in addresses {
+        let byte = lent.vram[usize::from(at)];
+        lent.write_at(at, byte);
+    }
+    let answer = lent.refresh();
+    let lines = lent.frame.chunks(256).enumerate();
+    let redrawn = lines.filter(|(_, line)| line.iter().all(|&byte| byte != 0xEE));
+    (answer, redrawn.map(|(number, _)| number).collect())
+}
+
+fn lines(range: std::ops::Range<usize>) -> (u32, Vec<usize>) {
+    (range.len() as u32, range.collect())
+}
+
+#[test]
+fn fault_83_colours_alone() {
+    let case = || [redrawn(0, &[0x201F]), redrawn(0, &[0x201F, 0x1FFF])];
+    let (right, wrong) = ([lines(0..8), lines(0..8)], [lines(0..0), lines(0..8)]);
+    shows(faults::COLOURS_NOT_ALONE, case, right, wrong);
+}
+
+#[test]
+fn fault_84_sprite_patterns_alone() {
+    let case = || [redrawn(0, &[0x0FFE]), redrawn(0, &[0x0FFE, 0x107F])];
+    let (right, wrong) = ([lines(56..57), lines(50..58)], [lines(0..0), lines(50..58)]);
+    shows(faults::SPRITE_PATTERNS_NOT_ALONE, case, right, wrong);
+}
+
+#[test]
+fn faults_85_to_88_forgotten_bytes() {
+    let case = || [0x1FFF, 0x107F, 0x0FFF].map(|at| redrawn(0, &[at]));
+    let right = [lines(7..8), lines(50..58), lines(57..58)];
+    let without = |place: usize| {
+        let mut wrong = right.clone();
+        wrong[place] = lines(0..0);
+        wrong
+    };
+    for (fault, place) in [
+        (faults::LAST_PATTERN_BYTE, 0),
+        (faults::LAST_ATTRIBUTE, 1),
+        (faults::LAST_SPRITE_PATTERN_BYTE, 2),
+        (faults::SPRITE_COLOUR_FORGOTTEN, 1),
+    ] {
+        shows(fault, case, right.clone(), without(place));
+    }
+}
+
+/// The first row shows the first two bytes of its patterns.
+#[test]
+fn fault_89_all_eight_bytes() {
+    let case = || [0x1FF9, 0x1FFA].map(|at| redrawn(8, &[at]));
+    let (right, wrong) = ([lines(4..8), lines(0..0)], [lines(0..8), lines(0..8)]);
+    shows(faults::ALL_EIGHT_BYTES, case, right, wrong);
+}
+
+#[test]
+fn faults_90_and_91_lines_of_a_row() {
+    let case = || [redrawn(0, &[0x1FFB]), redrawn(0, &[0x1FFB, 0x1FFC])];
+    let right = [lines(3..4), lines(3..5)];
+    let too_far = [(1, vec![4]), lines(3..5)];
+    shows(faults::ONE_LINE_TOO_FAR, case, right.clone(), too_far);
+    let whole = [lines(3..4), (2, (0..8).collect())];
+    shows(faults::ROW_REDRAWN_WHOLE, case, right, whole);
+}

@@ -6,6 +6,7 @@ mod common;
 use common::{log_of, shapes_board, Lent, Random, EARLY, LEFTMOST, RIGHTMOST};
 use reference::block::*;
 use reference::point::fetches;
+use reference::tables::tables;
 use reference::{faults, replay, show};
 use std::collections::BTreeMap;
 
@@ -323,6 +324,36 @@ fn line_calls(random: &mut Random) -> Vec<(Vec<u32>, Lent)> {
     calls.collect()
 }
 
+/// Refreshes after writes at the ends of tables and within them, with the last
+/// sprite alone on the screen: the answers and the lines redrawn.
+fn few_writes(random: &mut Random) -> (Vec<u32>, Lent) {
+    let mut lent = busy(random);
+    for number in 0..31 {
+        lent.sprite(number, [192, 0, 0, 0]);
+    }
+    lent.sprite(31, [random.below(150) as u8, random.byte(), 255, 15]);
+    let tables = tables(&lent.state());
+    let mut answers = Vec::new();
+    for table in [
+        tables.names,
+        tables.patterns,
+        tables.colours,
+        tables.attributes,
+        tables.sprite_patterns,
+    ] {
+        for from_start in [0, random.below(table.len().max(1) as u32) as usize] {
+            for at in [table.start + from_start, table.end.max(1) - 1] {
+                lent.frame.fill(0xEE);
+                lent.write_at(at as u16, random.byte());
+                answers.push(lent.refresh());
+                let lines = (0..192).filter(|&line| lent.frame[256 * line] != 0xEE);
+                answers.extend(lines.map(|line| line as u32));
+            }
+        }
+    }
+    (answers, lent)
+}
+
 /// All that a list of calls with refreshes leaves and answers.
 fn trace(seed: u64) -> Vec<(Vec<u32>, Lent)> {
     let mut random = Random(seed);
@@ -363,6 +394,9 @@ fn trace(seed: u64) -> Vec<(Vec<u32>, Lent)> {
         trace.push(port_calls(&mut random));
         trace.push(point_calls(&mut random));
         trace.extend(line_calls(&mut random));
+    }
+    for _ in 0..2 {
+        trace.push(few_writes(&mut random));
     }
     trace
 }
