@@ -5,12 +5,31 @@ use difftest::random::Random;
 
 pub const MODES: [&str; 4] = ["Graphics I", "Graphics II", "Multicolor", "Text"];
 pub const SPRITES: [&str; 3] = ["no sprites", "32 sprites of 16 by 16", "a heap of magnified sprites"];
-pub const CHANGES: [&str; 5] = [
-    "nothing",
-    "one name",
-    "one pattern byte",
-    "one sprite sideways",
-    "everything",
+/// What a driver has changed since the last refresh.
+#[derive(Clone, Copy)]
+pub enum Change {
+    Nothing,
+    /// A byte that no mode's picture here reads.
+    Unread,
+    /// So many names, one after another.
+    Names(usize),
+    Pattern,
+    /// A sprite's X.
+    Sprite,
+    /// The map says that every byte was written.
+    Everything,
+}
+
+pub const CHANGES: [(&str, Change); 9] = [
+    ("nothing", Change::Nothing),
+    ("a byte that is not read", Change::Unread),
+    ("one name", Change::Names(1)),
+    ("8 names", Change::Names(8)),
+    ("64 names", Change::Names(64)),
+    ("768 names", Change::Names(768)),
+    ("one pattern byte", Change::Pattern),
+    ("one sprite sideways", Change::Sprite),
+    ("everything", Change::Everything),
 ];
 
 /// Names, colours, patterns, attributes and sprite patterns all apart.
@@ -77,23 +96,29 @@ pub fn picture(mode: usize, sprites: usize) -> Picture {
     }
 }
 
+/// The display is off.
+pub fn blank() -> Picture {
+    let mut picture = picture(0, 0);
+    picture.block[1] &= !0x40;
+    picture
+}
+
 impl Picture {
-    /// What a driver would have changed since the last refresh.
     pub fn change(&mut self, mode: usize, change: usize) {
         let register = |number: usize| usize::from(self.block[number]);
-        let name_at = register(2) * 1024 + 5 * 32 + 7;
-        let pattern_at = if mode == 1 {
-            8 * usize::from(self.vram[name_at])
-        } else {
-            register(4) * 2048 + 8 * usize::from(self.vram[name_at])
-        };
+        let names_at = register(2) * 1024;
+        let name_at = names_at + 5 * 32 + 7;
+        let patterns_at = if mode == 1 { 0 } else { register(4) * 2048 };
+        let pattern_at = patterns_at + 8 * usize::from(self.vram[name_at]);
         let x_at = register(5) * 128 + 4 * 9 + 1;
-        match change {
-            0 => {}
-            1 => self.write(name_at),
-            2 => self.write(pattern_at),
-            3 => self.write(x_at),
-            _ => self.map.fill(0xFF),
+        match CHANGES[change].1 {
+            Change::Nothing => {}
+            Change::Unread => self.write(0x3F00),
+            Change::Names(768) => (0..768).for_each(|place| self.write(names_at + place)),
+            Change::Names(count) => (0..count).for_each(|place| self.write(name_at + place)),
+            Change::Pattern => self.write(pattern_at),
+            Change::Sprite => self.write(x_at),
+            Change::Everything => self.map.fill(0xFF),
         }
     }
 

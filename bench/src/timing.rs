@@ -28,6 +28,22 @@ pub fn in_turn<T>(
     (summed(firsts), summed(seconds))
 }
 
+/// The same, where the first is prepared each time, which is not timed.
+pub fn prepared_in_turn<T>(
+    rounds: usize,
+    on: &mut T,
+    prepare: impl Fn(&mut T),
+    first: impl Fn(&mut T),
+    second: impl Fn(&mut T),
+) -> (Times, Times) {
+    let both = (0..rounds).map(|_| {
+        prepare(on);
+        (once(1, || first(on)), once(1, || second(on)))
+    });
+    let (firsts, seconds) = both.unzip();
+    (summed(firsts), summed(seconds))
+}
+
 /// Several things in turn.
 pub fn all_in_turn<T, const N: usize>(rounds: usize, on: &mut T, what: [fn(&mut T); N]) -> [Times; N] {
     what.iter().for_each(|each| each(on));
