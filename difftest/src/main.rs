@@ -1,9 +1,9 @@
 //! difftest [--seed N] [--first N] [--cases N] [--faults | --gate]
 //!
 //! Compares N states, from the first on, a fourth as many cases of points, a tenth as many lists of calls and
-//! cases of logs, and a twentieth as many lists of refreshes; without --cases a fixed number, and no more than two
-//! minutes. Before them come meetings of sprites and calls that are refused, the same in every run. --faults plants
-//! each of the reference's faults in turn and wants it found; --gate does both.
+//! cases of logs, and a twentieth as many lists of refreshes; without --cases a fixed number. Before them come
+//! meetings of sprites and calls that are refused, the same in every run. --faults plants each of the reference's
+//! faults in turn and wants it found; --gate does both.
 
 use difftest::calls::{run, Case, Lost, Reached, BLOCKS, DROPPING, HIDDEN, LENGTHS, LOST_FROM, NAMES, REFUSED};
 use difftest::lists::{list_case, log_case, place, state_case};
@@ -11,12 +11,9 @@ use difftest::points::{self, Counts};
 use difftest::scenes::{KINDS, MODES};
 use difftest::{meetings, refreshes, refusals, shrink};
 use reference::faults;
-use std::time::{Duration, Instant};
 
 const SEED: u64 = 9918;
 const CASES: u64 = 12000;
-/// No longer than this where no number of cases was asked for.
-const LIMIT: Duration = Duration::from_secs(120);
 /// So many failures are printed; the others are only counted.
 const PRINTED: u64 = 3;
 
@@ -24,7 +21,6 @@ struct Options {
     seed: u64,
     first: u64,
     cases: u64,
-    limit: Option<Duration>,
     compare: bool,
     faults: bool,
 }
@@ -53,7 +49,6 @@ fn options() -> Result<Options, String> {
         seed: SEED,
         first: 0,
         cases: CASES,
-        limit: Some(LIMIT),
         compare: true,
         faults: false,
     };
@@ -66,7 +61,7 @@ fn options() -> Result<Options, String> {
         match word.as_str() {
             "--seed" => options.seed = number()?,
             "--first" => options.first = number()?,
-            "--cases" => (options.cases, options.limit) = (number()?, None),
+            "--cases" => options.cases = number()?,
             "--faults" => (options.compare, options.faults) = (false, true),
             "--gate" => (options.compare, options.faults) = (true, true),
             _ => return Err(format!("unknown word {word}")),
@@ -183,14 +178,7 @@ impl Compared {
 
 fn compare(options: &Options, passed: &mut u64, failed: &mut u64) {
     let (mut compared, mut reached) = (Compared::default(), Reached::default());
-    let start = Instant::now();
-    let mut whole = true;
     for numbered in all_meetings().chain(all_refusals()).chain(random(options)) {
-        if options.limit.map_or(false, |limit| start.elapsed() > limit) {
-            println!("stopped at {numbered}: {} seconds are over", LIMIT.as_secs());
-            whole = false;
-            break;
-        }
         let case = numbered.case(options.seed);
         compared.count(numbered);
         match run(&case, &mut reached) {
@@ -211,7 +199,7 @@ fn compare(options: &Options, passed: &mut u64, failed: &mut u64) {
     summary(options, &compared, &reached);
     let mut never = missed_by_meetings(&compared);
     // A short run need not reach everything.
-    if whole && options.cases >= CASES {
+    if options.cases >= CASES {
         never.extend(missed(&compared, &reached));
     }
     for what in never {
@@ -491,7 +479,7 @@ fn plant_all(options: &Options, passed: &mut u64, failed: &mut u64) {
 
 fn plant(
     number: u32,
-    cases: impl Iterator<Item = Numbered>,
+    mut cases: impl Iterator<Item = Numbered>,
     among: &str,
     options: &Options,
     passed: &mut u64,
@@ -499,11 +487,7 @@ fn plant(
 ) {
     let name = faults::NAMES[number as usize - 1];
     faults::plant(number);
-    let start = Instant::now();
-    let within = |limit| start.elapsed() < limit;
-    let found = cases
-        .take_while(|_| options.limit.map_or(true, within))
-        .find(|numbered| run(&numbered.case(options.seed), &mut Reached::default()).is_err());
+    let found = cases.find(|numbered| run(&numbered.case(options.seed), &mut Reached::default()).is_err());
     match found {
         Some(numbered) => {
             *passed += 1;

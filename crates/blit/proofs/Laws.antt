@@ -2,4 +2,5 @@
 pub mod Shifted
 pub mod Wide
 pub mod Meet
+pub mod Columns
 pub mod Paint

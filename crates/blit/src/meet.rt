@@ -3,10 +3,11 @@ ghost use mathlib.Core.Path.{_≡_};
 ghost use mathlib.Core.Bool.{_&&_};
 ghost use Prim.Native.Nat.{_+_, _-_, _≤_, _<_};
 ghost use lib.Dec.{ltb};
+ghost use lib.ListN.{length, getD};
 ghost use Rattle.chip.specs.Bits.{bit};
 ghost use Rattle.chip.specs.Ranges.{anyBelow};
 ghost use Rattle.sprites.specs.Pixels.{visible};
-ghost use Rattle.blit.specs.Wide.{rowsMeet, placesMeet, Near};
+ghost use Rattle.blit.specs.Wide.{columnsMeet, rowsMeet, placesMeet, Near};
 
 // Of two rows, the second of which begins d columns further right.
 fn rows_meet(a: u32, b: u32, d: u16) -> bool
@@ -43,16 +44,41 @@ fn meets_lower(firsts: &[u16], rows: &[u32], k: usize) -> bool
     met
 }
 
-// Whether two of the first n rows meet.
+// Whether rows that begin at these columns have a column in common.
+fn overlap(f: u16, g: u16) -> bool
+    ensures { λ b. ⌜ b ≡ columnsMeet f g ⌝ }
+{
+    if f <= g { g - f < 32 } else { f - g < 32 }
+}
+
+// Whether the row at place k has a column in common with one of those before it.
+fn overlaps_lower(firsts: &[u16], k: usize) -> bool
+    requires { ⌜ k < length (now firsts) ⌝ }
+    ensures { λ b. ⌜ b ≡ anyBelow k (λ i. columnsMeet (getD (now (firsts .entry)) i 0) (getD (now (firsts .entry)) k 0)) ⌝ }
+{
+    let first = firsts[k];
+    let mut any = false;
+    let mut i = 0;
+    while i < k {
+        any = any | overlap(firsts[i], first);
+        i += 1;
+    }
+    any
+}
+
+// Whether two of the first n rows meet. Bits are compared only where columns are in common, and until two rows meet.
 pub fn any_meet(firsts: &[u16], rows: &[u32], n: usize) -> bool
     requires { ⌜ Near (now firsts) (now rows) × (n ≤ 4) ⌝ }
     ensures { λ met. ⌜ met ≡ anyBelow n (λ k. anyBelow k (λ i. placesMeet (now (firsts .entry)) (now (rows .entry)) i k)) ⌝ }
 {
-    let mut met = false;
     let mut k = 0;
     while k < n {
-        met = met | meets_lower(firsts, rows, k);
+        if overlaps_lower(firsts, k) {
+            if meets_lower(firsts, rows, k) {
+                return true;
+            }
+        }
         k += 1;
     }
-    met
+    false
 }

@@ -35,11 +35,11 @@ module _ (first row c : ℕ) where
   shown-in low high = rw (le-leb _ _ low, lt-ltb _ _ high)
 
   -- where it has a set bit
-  shown-low : shownAt first row c ≡ true → first ≤ c
+  pub shown-low : shownAt first row c ≡ true → first ≤ c
   unfolding shownAt
   shown-low e = leb-true _ _ (and-left (leb first c) _ e)
 
-  shown-high : shownAt first row c ≡ true → c < first + 32
+  pub shown-high : shownAt first row c ≡ true → c < first + 32
   unfolding shownAt
   shown-high e = ltb-true _ _ (and-left (ltb c (first + 32)) _ (and-right (leb first c) _ e))
 
