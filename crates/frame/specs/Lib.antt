@@ -3,5 +3,5 @@ pub mod Lines
 pub mod Draw
 pub mod Due
 pub mod Calls
-pub mod Row
+pub mod Rows
 pub mod Status

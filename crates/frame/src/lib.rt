@@ -1,8 +1,6 @@
 // Full draw and refresh: 192 lines into a lent frame, their notes, and status updated by them.
 mod calls;
-mod line;
 mod lines;
-mod row;
 mod status;
 
 pub use calls::full_draw;

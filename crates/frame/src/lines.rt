@@ -7,13 +7,14 @@ ghost use Rattle.chip.specs.Lists.{tabulate};
 ghost use Rattle.chip.specs.Modes.{modeOf};
 ghost use Rattle.chip.specs.State.{masked};
 ghost use Rattle.dirty.specs.Rows.{RowBits};
+ghost use Rattle.redraw.specs.Row.{LineSets};
 ghost use Rattle.frame.specs.Due as due;
 ghost use Rattle.frame.specs.Lines.{endToEnd, countBelow};
-ghost use Rattle.frame.specs.Row as row;
-use crate::row::redraw_row;
+ghost use Rattle.frame.specs.Rows.{dueBit, lineBy, noteByRows};
 use chip::Mode;
 use dirty::dirty_rows;
 use dirty::is_clear;
+use redraw::redraw_row;
 use rows::byte_words;
 use rows::paints;
 use scanline::has_sprites;
@@ -38,7 +39,7 @@ fn due_rows(redraw: bool, r: [u8; 8], vram: &[u8], map: &[u8]) -> [u8; 24]
 // The sets of all lines' sprites.
 fn line_sets(mode: Mode, r: [u8; 8], vram: &[u8]) -> [u32; 192]
     requires { ⌜ (mode ≡ modeOf r) × (masked r ≡ true) × (length (now vram) ≡ 16384) ⌝ }
-    ensures { λ s. ⌜ row.LineSets r (now (vram .entry)) s ⌝ }
+    ensures { λ s. ⌜ LineSets r (now (vram .entry)) s ⌝ }
 {
     if has_sprites(mode) {
         return sets_of(r, vram);
@@ -49,9 +50,9 @@ fn line_sets(mode: Mode, r: [u8; 8], vram: &[u8]) -> [u32; 192]
 // Redraws the lines of the rows, and counts them. The tables that all rows are drawn with are made once.
 fn redraw_rows(rows: [u8; 24], r: [u8; 8], vram: &[u8], frame: &mut [u8], notes: &mut [u8]) -> u8
     requires { ⌜ (length rows ≡ 24) × (masked r ≡ true) × (length (now vram) ≡ 16384) × (length (now frame) ≡ 49152) × (length (now notes) ≡ 192) ⌝ }
-    ensures { λ n. ⌜ n ≡ countBelow 192 (row.dueBit rows) ⌝ }
-    ensures { λ _. ⌜ now (frame .exit) ≡ endToEnd 192 (row.lineBy rows r (now (vram .entry)) (now (frame .entry))) ⌝ }
-    ensures { λ _. ⌜ now (notes .exit) ≡ tabulate 192 (row.noteByRows rows r (now (vram .entry)) (now (notes .entry))) ⌝ }
+    ensures { λ n. ⌜ n ≡ countBelow 192 (dueBit rows) ⌝ }
+    ensures { λ _. ⌜ now (frame .exit) ≡ endToEnd 192 (lineBy rows r (now (vram .entry)) (now (frame .entry))) ⌝ }
+    ensures { λ _. ⌜ now (notes .exit) ≡ tabulate 192 (noteByRows rows r (now (vram .entry)) (now (notes .entry))) ⌝ }
 {
     let mode = chip::mode_of(r);
     let masks = masks();

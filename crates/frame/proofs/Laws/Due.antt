@@ -2,18 +2,15 @@
 use Prim.Native.Nat.{ℕ, _<_}
 use native.Mathlib.Omega.{arith}
 use mathlib.Core.Path.{_≡_}
-use mathlib.Core.Bool.{Bool, true, false, cond}
+use mathlib.Core.Bool.{Bool}
 use mathlib.Core.List.{List}
 use lib.ListN.{length}
 use Rattle.chip.proofs.Laws.Lists.{length-tabulate}
 use Rattle.scanline.specs.Calls.{colours}
+use Rattle.redraw.proofs.Laws.Row.{either-long}
 use Rattle.frame.specs.Lines.{lineAt}
 use Rattle.frame.specs.Due.{due, newLine}
 use Rattle.frame.proofs.Laws.Lines.{length-line}
-
-pub either-long : (b : Bool) (x y : List ℕ) → length x ≡ 256 → length y ≡ 256 → length (cond b x y) ≡ 256
-either-long true x y ex ey = ex
-either-long false x y ex ey = ey
 
 pub wide-line : (redraw : Bool) (r vram map frame : List ℕ) → length frame ≡ 49152 → (l : ℕ) → l < 192 → length (newLine redraw r vram map frame l) ≡ 256
 wide-line redraw r vram map frame e l h =

@@ -12,9 +12,9 @@ use mir.Val.{boolByte}
 use Rattle.chip.specs.Lists.{tabulate}
 use Rattle.chip.proofs.Laws.Lists.{getD-tabulate, length-tabulate}
 use Rattle.chip.proofs.Laws.Stored.{stored-long, stored-left, stored-inside, stored-right}
+use Rattle.redraw.proofs.Laws.Redraw.{Redrawn}
 use Rattle.frame.specs.Lines.{endToEnd, lineAt, countBelow}
 use Rattle.frame.proofs.Laws.Lines.{length-end}
-use Rattle.frame.proofs.Laws.Redraw.{Redrawn}
 
 -- n lines behind the first a
 pub end-add : (f : ℕ → List ℕ) (a n : ℕ) → endToEnd (a + n) f ≡ endToEnd a f ++ endToEnd n (λ k. f (a + k))

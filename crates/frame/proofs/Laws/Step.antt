@@ -10,12 +10,13 @@ use Rattle.chip.specs.Bits.{bit}
 use Rattle.chip.specs.Lists.{tabulate}
 use Rattle.chip.proofs.Laws.Lists.{length-tabulate, tabulate-same}
 use Rattle.scanline.specs.Calls.{noteAt, colours}
+use Rattle.redraw.specs.Row.{rowLine, rowLines, rowNote, rowNotes, rowCount}
+use Rattle.redraw.proofs.Laws.Row.{either-long}
+use Rattle.redraw.proofs.Laws.Still.{count-same}
 use Rattle.frame.specs.Lines.{endToEnd, lineAt, countBelow}
-use Rattle.frame.specs.Row.{rowLine, rowLines, rowNote, rowNotes, rowCount, dueBit, lineBy, noteByRows}
+use Rattle.frame.specs.Rows.{dueBit, lineBy, noteByRows}
 use Rattle.frame.proofs.Laws.Lines.{end-same, length-line}
-use Rattle.frame.proofs.Laws.Due.{either-long}
 use Rattle.frame.proofs.Laws.Rows.{line-of-row}
-use Rattle.frame.proofs.Laws.Still.{count-same}
 
 pub wide-by : (rows r vram frame : List ℕ) → length frame ≡ 49152 → (l : ℕ) → l < 192 → length (lineBy rows r vram frame l) ≡ 256
 wide-by rows r vram frame e l h = either-long (dueBit rows l) (colours r vram l) (lineAt frame l) (length-tabulate 256 _) (length-line frame l (omega arith))

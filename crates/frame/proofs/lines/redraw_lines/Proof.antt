@@ -5,11 +5,11 @@ use mathlib.Core.Bool.{Bool, false, cond}
 use lib.ListN.{getD}
 use Rattle.chip.proofs.Laws.Lists.{tabulate-same}
 use Rattle.scanline.specs.Calls.{noteAt, colours}
+use Rattle.redraw.proofs.Laws.Still.{frame-stays, notes-stay, count-same, no-count}
 use Rattle.frame.specs.Lines.{lineAt}
 use Rattle.frame.specs.Due.{due, newLine}
-use Rattle.frame.specs.Row.{dueBit, lineBy}
+use Rattle.frame.specs.Rows.{dueBit, lineBy}
 use Rattle.frame.proofs.Laws.Lines.{end-same}
-use Rattle.frame.proofs.Laws.Still.{frame-stays, notes-stay, count-same, no-count}
 use Rattle.frame.proofs.Laws.Bits.{row-bit, no-row}
 use borrow.Author.Needs.{needs}
 use Rattle.frame.proofs.lines.redraw_lines.Statement.{statement}

@@ -5,8 +5,8 @@ use mathlib.Core.Path.{_≡_, refl, ap, subst, _∙_}
 use mathlib.Core.List.{List}
 use lib.ListN.{length, getD, take, drop}
 use Rattle.chip.specs.Bits.{bit}
-use Rattle.frame.specs.Row.{dueBit, lineBy, noteByRows}
-use Rattle.frame.proofs.Laws.Redraw.{Redrawn, redrawn-none, redrawn-long, redrawn-all}
+use Rattle.redraw.proofs.Laws.Redraw.{Redrawn, redrawn-none, redrawn-long, redrawn-all}
+use Rattle.frame.specs.Rows.{dueBit, lineBy, noteByRows}
 use Rattle.frame.proofs.Laws.Lines.{count-le}
 use Rattle.frame.proofs.Laws.Rows.{rest-as-lent, redrawn-row}
 use Rattle.frame.proofs.Laws.Step.{wide-by, step-lines, step-notes, step-count}

@@ -11,7 +11,7 @@ use Rattle.sets.proofs.Laws.Scan.{empty-set}
 use Rattle.scanline.specs.Line.{hasSprites, spritesOf, noSprites}
 use Rattle.scanline.specs.Calls.{noteAt, colours}
 use Rattle.scanline.proofs.Laws.Line.{plain-note, plain-line}
-use Rattle.frame.specs.Row.{LineSet, planeLine}
+use Rattle.redraw.specs.Row.{LineSet, planeLine}
 
 module _ (r vram : List ℕ) (l set : ℕ) (s : LineSet r vram l set) where
   -- a set that is not empty is one of a mode with sprites

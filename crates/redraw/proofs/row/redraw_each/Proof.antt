@@ -7,13 +7,13 @@ use mathlib.Core.List.{List}
 use lib.ListN.{length, take, drop}
 use Rattle.chip.specs.Bits.{bit}
 use Rattle.scanline.specs.Calls.{noteAt, colours}
-use Rattle.frame.specs.Row.{rowLine, rowNote}
-use Rattle.frame.proofs.Laws.Redraw.{Redrawn, redrawn-none, redrawn-line, redrawn-all, prefix-long}
-use Rattle.frame.proofs.Laws.Lines.{count-le, bit-small, old-line}
-use Rattle.frame.proofs.Laws.Row.{plane-line, wide-row}
+use Rattle.redraw.specs.Row.{rowLine, rowNote}
+use Rattle.redraw.proofs.Laws.Redraw.{Redrawn, redrawn-none, redrawn-line, redrawn-all, prefix-long}
+use Rattle.redraw.proofs.Laws.Lines.{count-le, bit-small, old-line}
+use Rattle.redraw.proofs.Laws.Row.{plane-line, wide-row}
 use borrow.Author.Needs.{needs}
-use Rattle.frame.proofs.row.redraw_each.Statement.{statement}
-use Rattle.frame.proofs.row.redraw_each.Tie as tie
+use Rattle.redraw.proofs.row.redraw_each.Statement.{statement}
+use Rattle.redraw.proofs.row.redraw_each.Tie as tie
 
 abbrev Inv-loop : tie.InvT-loop
 Inv-loop planes mode r vram row due masks paints sets beside part₀ notes₀ redrawn₀ k₀ part notes redrawn k =

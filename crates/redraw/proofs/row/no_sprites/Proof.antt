@@ -6,8 +6,8 @@ use borrow.Author.Count.{below-more}
 use borrow.Author.Tests.{eqb-true}
 use lib.ListN.{getD}
 use Rattle.chip.proofs.Laws.Bits.{both-zero}
-use Rattle.frame.proofs.row.no_sprites.Statement.{statement}
-use Rattle.frame.proofs.row.no_sprites.Tie as tie
+use Rattle.redraw.proofs.row.no_sprites.Statement.{statement}
+use Rattle.redraw.proofs.row.no_sprites.Tie as tie
 
 abbrev Inv-loop : tie.InvT-loop
 Inv-loop sets row first joined₀ k₀ joined k = (k ≤ 8) × (joined ≡ 0 → (j : ℕ) → j < k → getD sets (8 * row + j) 0 ≡ 0)

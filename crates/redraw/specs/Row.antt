@@ -1,7 +1,7 @@
 -- What code relies on, and leaves, that redraws the eight lines of one row of names. No promise of a call rests on it.
-use Prim.Native.Nat.{ℕ, _+_, _*_, _/_, _%_, _<_}
+use Prim.Native.Nat.{ℕ, _+_, _*_, _<_}
 use mathlib.Core.Path.{_≡_}
-use mathlib.Core.Bool.{Bool, true, false, cond}
+use mathlib.Core.Bool.{true, false, cond}
 use mathlib.Core.List.{List}
 use lib.ListN.{length, getD}
 use Rattle.chip.specs.Bits.{bit}
@@ -11,7 +11,7 @@ use Rattle.rows.specs.Rows.{planePixel}
 use Rattle.sets.specs.Sets.{IsSet}
 use Rattle.scanline.specs.Line.{hasSprites}
 use Rattle.scanline.specs.Calls.{noteAt, colours}
-use Rattle.frame.specs.Lines.{endToEnd, lineAt, countBelow}
+use Rattle.redraw.specs.Lines.{endToEnd, lineAt, countBelow}
 
 -- The set of line l's sprites: none in a mode that has no sprites.
 pub record LineSet (r vram : List ℕ) (l set : ℕ) : Type 0 where
@@ -41,13 +41,3 @@ rowNotes r vram row due notes = tabulate 8 (rowNote r vram row due notes)
 
 abbrev pub rowCount : ℕ → ℕ
 rowCount due = countBelow 8 (λ k. bit k due)
-
--- Whether line l is due by a byte for each row of names, and what the lines and notes of a whole frame are after a redraw by them.
-abbrev pub dueBit : List ℕ → ℕ → Bool
-dueBit rows l = bit (l % 8) (getD rows (l / 8) 0)
-
-abbrev pub lineBy : List ℕ → List ℕ → List ℕ → List ℕ → ℕ → List ℕ
-lineBy rows r vram frame l = cond (dueBit rows l) (colours r vram l) (lineAt frame l)
-
-abbrev pub noteByRows : List ℕ → List ℕ → List ℕ → List ℕ → ℕ → ℕ
-noteByRows rows r vram notes l = cond (dueBit rows l) (noteAt r vram l) (getD notes l 0)

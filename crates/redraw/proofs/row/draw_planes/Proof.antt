@@ -4,10 +4,10 @@ use native.Mathlib.Omega.{arith}
 use mathlib.Core.Path.{_≡_, refl, sym, ap, _∙_}
 use lib.ListN.{length}
 use Rattle.chip.proofs.Laws.Lists.{length-tabulate}
-use Rattle.frame.specs.declared.line.Planes.the-variants.{Here, Beside, Nowhere}
+use Rattle.redraw.specs.declared.line.Planes.the-variants.{Here, Beside, Nowhere}
 use borrow.Author.Needs.{needs}
-use Rattle.frame.proofs.row.draw_planes.Statement.{statement}
-use Rattle.frame.proofs.row.draw_planes.Tie as tie
+use Rattle.redraw.proofs.row.draw_planes.Statement.{statement}
+use Rattle.redraw.proofs.row.draw_planes.Tie as tie
 
 -- the function's entry
 abbrev Entry : tie.After-slice-known2 → tie.Start

@@ -10,8 +10,8 @@ use lib.Seq.{take-add, take-all}
 use mir.Val.{boolByte}
 use Rattle.chip.specs.Lists.{tabulate}
 use Rattle.chip.proofs.Laws.Lists.{tabulated}
-use Rattle.frame.specs.Lines.{endToEnd, lineAt, countBelow}
-use Rattle.frame.proofs.Laws.Lines.{end-same}
+use Rattle.redraw.specs.Lines.{endToEnd, lineAt, countBelow}
+use Rattle.redraw.proofs.Laws.Lines.{end-same}
 
 -- a frame's lines, end to end
 pub front-lines : (frame : List ℕ) (n : ℕ) → endToEnd n (lineAt frame) ≡ take (256 * n) frame

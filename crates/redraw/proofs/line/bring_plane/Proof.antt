@@ -1,8 +1,8 @@
 -- `bring_plane` meets its contract.
 use mathlib.Core.Path.{_≡_, _∙_}
 use borrow.Author.Needs.{needs}
-use Rattle.frame.proofs.line.bring_plane.Statement.{statement}
-use Rattle.frame.proofs.line.bring_plane.Tie as tie
+use Rattle.redraw.proofs.line.bring_plane.Statement.{statement}
+use Rattle.redraw.proofs.line.bring_plane.Tie as tie
 
 -- the function's entry
 abbrev Entry : tie.After-slice-known → tie.Start

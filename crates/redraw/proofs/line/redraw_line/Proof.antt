@@ -3,8 +3,8 @@ use mathlib.Core.Path.{_≡_, refl}
 use mathlib.Core.Bool.{true}
 use borrow.Author.Needs.{needs}
 use borrow.Author.Tests.{not-true, not-false}
-use Rattle.frame.proofs.line.redraw_line.Statement.{statement}
-use Rattle.frame.proofs.line.redraw_line.Tie as tie
+use Rattle.redraw.proofs.line.redraw_line.Statement.{statement}
+use Rattle.redraw.proofs.line.redraw_line.Tie as tie
 
 -- the function's entry, and that the line is due behind the first test
 abbrev Entry : tie.After-slice-known → tie.Start

@@ -9,8 +9,8 @@ use lib.Seq.{getD-set-other}
 use mir.Val.{boolByte}
 use Rattle.chip.specs.Lists.{tabulate}
 use Rattle.chip.proofs.Laws.Lists.{Filled, filled-none, filled-more, tabulated}
-use Rattle.frame.specs.Lines.{endToEnd, countBelow}
-use Rattle.frame.proofs.Laws.Lines.{length-end, line-stored, all-lines, count-more}
+use Rattle.redraw.specs.Lines.{endToEnd, countBelow}
+use Rattle.redraw.proofs.Laws.Lines.{length-end, line-stored, all-lines, count-more}
 
 -- After l of n lines: they are the new ones, and so are their notes; the rest is as it was; and the due ones are counted.
 pub record Redrawn (n : ℕ) (line : ℕ → List ℕ) (note : ℕ → ℕ) (is : ℕ → Bool) (frame₀ notes₀ frame notes : List ℕ) (count l : ℕ) : Type 0 where

@@ -10,14 +10,14 @@ use Rattle.chip.specs.Bits.{bit}
 use Rattle.chip.proofs.Laws.Bits.{bit-zero}
 use Rattle.chip.proofs.Laws.Ranges.{and-left, and-right}
 use Rattle.scanline.specs.Calls.{noteAt, colours}
-use Rattle.frame.specs.Row.{rowLines, rowNotes}
-use Rattle.frame.specs.declared.line.Planes.{Planes}
-use Rattle.frame.specs.declared.line.Planes.the-variants.{Here, Beside, Nowhere}
-use Rattle.frame.proofs.Laws.Bits.{whole-row, whole-count}
-use Rattle.frame.proofs.Laws.Still.{frame-stays, notes-stay, no-count}
+use Rattle.redraw.specs.Row.{rowLines, rowNotes}
+use Rattle.redraw.specs.declared.line.Planes.{Planes}
+use Rattle.redraw.specs.declared.line.Planes.the-variants.{Here, Beside, Nowhere}
+use Rattle.redraw.proofs.Laws.Whole.{whole-row, whole-count}
+use Rattle.redraw.proofs.Laws.Still.{frame-stays, notes-stay, no-count}
 use borrow.Author.Needs.{needs}
-use Rattle.frame.proofs.row.redraw_row.Statement.{statement}
-use Rattle.frame.proofs.row.redraw_row.Tie as tie
+use Rattle.redraw.proofs.row.redraw_row.Statement.{statement}
+use Rattle.redraw.proofs.row.redraw_row.Tie as tie
 
 -- the function's entry
 abbrev Entry : tie.After-slice-known3 → tie.Start

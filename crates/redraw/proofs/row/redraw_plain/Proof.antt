@@ -2,10 +2,10 @@
 use Prim.Native.Nat.{ℕ}
 use mathlib.Core.Path.{_≡_, ap, _∙_}
 use lib.ListN.{replicate}
-use Rattle.frame.proofs.Laws.Bits.{plain-lines, plain-notes}
+use Rattle.redraw.proofs.Laws.Whole.{plain-lines, plain-notes}
 use borrow.Author.Needs.{needs}
-use Rattle.frame.proofs.row.redraw_plain.Statement.{statement}
-use Rattle.frame.proofs.row.redraw_plain.Tie as tie
+use Rattle.redraw.proofs.row.redraw_plain.Statement.{statement}
+use Rattle.redraw.proofs.row.redraw_plain.Tie as tie
 
 draw-plane-row-requires : tie.Need-draw-plane-row-requires
 draw-plane-row-requires c κs = search needs

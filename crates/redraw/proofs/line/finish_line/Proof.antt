@@ -7,10 +7,10 @@ use Rattle.chip.proofs.Laws.Lists.{length-tabulate}
 use Rattle.sprites.proofs.Laws.Ended.{ended-small}
 use Rattle.scanline.specs.Line.{hasSprites}
 use Rattle.scanline.proofs.Laws.Line.{note-is, sprites-over}
-use Rattle.frame.proofs.Laws.Finish.{has-some, scanned, empty-note, empty-line}
+use Rattle.redraw.proofs.Laws.Finish.{has-some, scanned, empty-note, empty-line}
 use borrow.Author.Needs.{needs}
-use Rattle.frame.proofs.line.finish_line.Statement.{statement}
-use Rattle.frame.proofs.line.finish_line.Tie as tie
+use Rattle.redraw.proofs.line.finish_line.Statement.{statement}
+use Rattle.redraw.proofs.line.finish_line.Tie as tie
 
 -- the function's entry, and the mode of a set that is not empty
 abbrev Entry : tie.After-slice-known → tie.Start

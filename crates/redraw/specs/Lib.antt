@@ -1,0 +1,3 @@
+-- Redrawing the due lines of one row of names.
+pub mod Lines
+pub mod Row
