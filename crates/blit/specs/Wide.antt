@@ -25,8 +25,8 @@ unfoldable pub shownAt : ℕ → ℕ → ℕ → Bool
 shownAt first row c = leb first c && (ltb c (first + 32) && bit (31 - (c - first)) row)
 
 -- Whether two rows, which begin at columns f and g, have a column in common.
-unfoldable pub columnsMeet : ℕ → ℕ → Bool
-columnsMeet f g = ltb f (g + 32) && ltb g (f + 32)
+unfoldable pub columnsOverlap : ℕ → ℕ → Bool
+columnsOverlap f g = ltb f (g + 32) && ltb g (f + 32)
 
 -- Whether two rows have a set bit at the same column.
 unfoldable pub rowsMeet : ℕ → ℕ → ℕ → ℕ → Bool

@@ -7,7 +7,7 @@ ghost use lib.ListN.{length, getD};
 ghost use Rattle.chip.specs.Bits.{bit};
 ghost use Rattle.chip.specs.Ranges.{anyBelow};
 ghost use Rattle.sprites.specs.Pixels.{visible};
-ghost use Rattle.blit.specs.Wide.{columnsMeet, rowsMeet, placesMeet, Near};
+ghost use Rattle.blit.specs.Wide.{columnsOverlap, rowsMeet, placesMeet, Near};
 
 // Of two rows, the second of which begins d columns further right.
 fn rows_meet(a: u32, b: u32, d: u16) -> bool
@@ -46,7 +46,7 @@ fn meets_lower(firsts: &[u16], rows: &[u32], k: usize) -> bool
 
 // Whether rows that begin at these columns have a column in common.
 fn overlap(f: u16, g: u16) -> bool
-    ensures { λ b. ⌜ b ≡ columnsMeet f g ⌝ }
+    ensures { λ b. ⌜ b ≡ columnsOverlap f g ⌝ }
 {
     if f <= g { g - f < 32 } else { f - g < 32 }
 }
@@ -54,7 +54,7 @@ fn overlap(f: u16, g: u16) -> bool
 // Whether the row at place k has a column in common with one of those before it.
 fn overlaps_lower(firsts: &[u16], k: usize) -> bool
     requires { ⌜ k < length (now firsts) ⌝ }
-    ensures { λ b. ⌜ b ≡ anyBelow k (λ i. columnsMeet (getD (now (firsts .entry)) i 0) (getD (now (firsts .entry)) k 0)) ⌝ }
+    ensures { λ b. ⌜ b ≡ anyBelow k (λ i. columnsOverlap (getD (now (firsts .entry)) i 0) (getD (now (firsts .entry)) k 0)) ⌝ }
 {
     let first = firsts[k];
     let mut any = false;

@@ -14,7 +14,7 @@ use Rattle.scanline.specs.Line.{lineOf, colourAt}
 use Rattle.scanline.specs.Calls.{noteAt, colours}
 use Rattle.frame.specs.Lines.{lineAt}
 use Rattle.frame.specs.Due.{due, newLine, newNote, newFrame, newNotes}
-use Rattle.frame.proofs.Laws.Lines.{length-line, line-of-end}
+use Rattle.frame.proofs.Laws.Lines.{length-line, either-long, line-of-end}
 use Rattle.claims.specs.Bench.{Bench}
 use Rattle.claims.specs.Call.{refresh, Call}
 use Rattle.claims.specs.Description.{tests}
@@ -32,10 +32,6 @@ module _ (b : Bench) (long : length (b .frame) ≡ 49152) (l : ℕ) (below : l <
 
   abbrev r : List ℕ
   r = b .chip .registers
-
-  either-long : (x : Bool) (p q : List ℕ) → length p ≡ 256 → length q ≡ 256 → length (cond x p q) ≡ 256
-  either-long true p q h k = h
-  either-long false p q h k = k
 
   new-line : lineAt (newFrame m r (b .vram) (b .map) (b .frame)) l ≡ newLine m r (b .vram) (b .map) (b .frame) l
   new-line =

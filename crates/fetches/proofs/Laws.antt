@@ -1,7 +1,5 @@
 -- Laws of descriptions of what is read.
-use Prim.Native.Nat.{ℕ, zero, suc, _+_, _-_, _≤_, _<_}
-use native.Mathlib.Numerals.{add-one}
-use native.Mathlib.Omega.{arith}
+use Prim.Native.Nat.{ℕ, zero, suc, _+_, _<_}
 use native.Mathlib.Nat.{add-zero, add-suc, suc-add, not-suc-le-zero, le-of-suc-le-suc}
 use mathlib.Core.Path.{_≡_, refl, sym, ap, _∙_}
 use mathlib.Core.Bool.{Bool, true, false, _||_}
@@ -67,10 +65,6 @@ module _ {A : Type 0} (f : ℕ → Fetch A) (m : List ℕ) where
       fetched-followed (f i) (λ a. followed (each (suc i) n f) (λ l. answer (a ∷ l))) m
       ∙ ap (λ (l : List ℕ). fetched (f i) m ++ l) (fetched-followed (each (suc i) n f) (λ l. answer (value (f i) m ∷ l)) m ∙ append-nil (fetched (each (suc i) n f) m))
 
-  fetched-none : (i : ℕ) → fetched (each i zero f) m ≡ []
-  unfolding each fetched
-  fetched-none i = refl
-
 -- one of two lists' addresses is dirty where one of either's is
 pub dirty-append : (map a b : List ℕ) → anyDirty map (a ++ b) ≡ (anyDirty map a || anyDirty map b)
 dirty-append map [] b = refl
@@ -79,24 +73,3 @@ dirty-append map (x ∷ a) b = ap (λ (t : Bool). isDirty map x || t) (dirty-app
     or-assoc : (p q r : Bool) → (p || (q || r)) ≡ (p || q || r)
     or-assoc true q r = refl
     or-assoc false q r = refl
-
--- A loop over a row of descriptions that looks for a dirty byte: what it has still to look at decides.
-module _ {A : Type 0} (f : ℕ → Fetch A) (map m : List ℕ) where
-  abbrev pub from : ℕ → ℕ → Bool
-  from i n = anyDirty map (fetched (each i (n - i) f) m)
-
-  here : (i n : ℕ) → i < n → from i n ≡ (anyDirty map (fetched (f i) m) || from (i + 1) n)
-  here i n h =
-      let e : n - i ≡ suc (n - (i + 1)) = omega arith in
-      rw (e, fetched-each f m i (n - (i + 1)), dirty-append map (fetched (f i) m), add-one)
-
-  pub dirty-here : (i n : ℕ) → i < n → anyDirty map (fetched (f i) m) ≡ true → from i n ≡ true
-  dirty-here i n h t = here i n h ∙ ap (λ (b : Bool). b || from (i + 1) n) t
-
-  pub dirty-next : (i n : ℕ) → i < n → anyDirty map (fetched (f i) m) ≡ false → from i n ≡ from (i + 1) n
-  dirty-next i n h t = here i n h ∙ ap (λ (b : Bool). b || from (i + 1) n) t
-
-  pub dirty-end : (i n : ℕ) → n ≤ i → from i n ≡ false
-  dirty-end i n h =
-      let e : n - i ≡ 0 = omega arith in
-      rw (e, fetched-none f m i)

@@ -3,7 +3,6 @@ pub mod Lines
 pub mod Rows
 pub mod Bits
 pub mod Step
-pub mod Due
 pub mod Dirty
 pub mod Clean
 pub mod Calls

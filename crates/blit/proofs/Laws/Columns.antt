@@ -12,12 +12,12 @@ use Rattle.chip.specs.Ranges.{anyBelow}
 use Rattle.chip.proofs.Laws.Ranges.{none-holds, any-fails}
 use Rattle.chip.proofs.Laws.Refusals.{differ}
 use Rattle.sprites.specs.Pixels.{reach}
-use Rattle.blit.specs.Wide.{shownAt, columnsMeet, rowsMeet, placesMeet}
+use Rattle.blit.specs.Wide.{shownAt, columnsOverlap, rowsMeet, placesMeet}
 use Rattle.blit.proofs.Laws.Meet.{shown-low, shown-high}
 
 -- by the distance of the second from the first
-pub from-left : (f g : ℕ) → f ≤ g → ltb (g - f) 32 ≡ columnsMeet f g
-unfolding columnsMeet
+pub from-left : (f g : ℕ) → f ≤ g → ltb (g - f) 32 ≡ columnsOverlap f g
+unfolding columnsOverlap
 from-left f g h = by (decLt g (f + 32))
   where
     left : ltb f (g + 32) ≡ true
@@ -29,12 +29,12 @@ from-left f g h = by (decLt g (f + 32))
         let past : f + 32 ≤ g = omega arith in
         le-ltb (g - f) 32 (omega arith) ∙ sym (ap₂ _&&_ left (le-ltb g (f + 32) past))
 
-pub from-right : (f g : ℕ) → g ≤ f → ltb (f - g) 32 ≡ columnsMeet f g
-unfolding columnsMeet
+pub from-right : (f g : ℕ) → g ≤ f → ltb (f - g) 32 ≡ columnsOverlap f g
+unfolding columnsOverlap
 from-right f g h = from-left g f h ∙ and-comm (ltb g (f + 32)) (ltb f (g + 32))
 
-apart : (f v g w : ℕ) → columnsMeet f g ≡ false → rowsMeet f v g w ≡ false
-unfolding columnsMeet rowsMeet
+apart : (f v g w : ℕ) → columnsOverlap f g ≡ false → rowsMeet f v g w ≡ false
+unfolding columnsOverlap rowsMeet
 apart f v g w e = none-holds reach _ (λ c h. by c (shownAt f v c) (shownAt g w c) refl refl)
   where
     by : (c : ℕ) (p q : Bool) → shownAt f v c ≡ p → shownAt g w c ≡ q → (p && q) ≡ false
@@ -46,7 +46,7 @@ apart f v g w e = none-holds reach _ (λ c h. by c (shownAt f v c) (shownAt g w 
     by c false q ep eq = refl
 
 -- the row at place k and those before it
-pub none-meets : (firsts rows : List ℕ) (k : ℕ) → anyBelow k (λ i. columnsMeet (getD firsts i 0) (getD firsts k 0)) ≡ false → anyBelow k (λ i. placesMeet firsts rows i k) ≡ false
+pub none-meets : (firsts rows : List ℕ) (k : ℕ) → anyBelow k (λ i. columnsOverlap (getD firsts i 0) (getD firsts k 0)) ≡ false → anyBelow k (λ i. placesMeet firsts rows i k) ≡ false
 none-meets firsts rows k e =
     none-holds k (λ i. placesMeet firsts rows i k)
-    (λ i h. apart (getD firsts i 0) (getD rows i 0) (getD firsts k 0) (getD rows k 0) (any-fails k (λ i. columnsMeet (getD firsts i 0) (getD firsts k 0)) e i h))
+    (λ i h. apart (getD firsts i 0) (getD rows i 0) (getD firsts k 0) (getD rows k 0) (any-fails k (λ i. columnsOverlap (getD firsts i 0) (getD firsts k 0)) e i h))

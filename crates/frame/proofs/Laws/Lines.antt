@@ -10,7 +10,7 @@ use borrow.Author.Tests.{eqb-true, eqb-false}
 use lib.ListN.{length, take, drop, length-drop}
 use lib.Seq.{take-at, drop-at, take-append-le, drop-append-le}
 use Rattle.frame.specs.Lines.{endToEnd, lineAt}
-pub use Rattle.redraw.proofs.Laws.Lines.{length-end, end-same, length-line, bit-small, count-le}
+pub use Rattle.redraw.proofs.Laws.Lines.{length-end, end-same, length-line, either-long, bit-small, count-le}
 
 -- Line l of lines end to end.
 pub line-of-end : (f : ℕ → List ℕ) (n : ℕ) → ((k : ℕ) → k < n → length (f k) ≡ 256) → (l : ℕ) → l < n → lineAt (endToEnd n f) l ≡ f l

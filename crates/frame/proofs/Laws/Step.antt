@@ -11,11 +11,10 @@ use Rattle.chip.specs.Lists.{tabulate}
 use Rattle.chip.proofs.Laws.Lists.{length-tabulate, tabulate-same}
 use Rattle.scanline.specs.Calls.{noteAt, colours}
 use Rattle.redraw.specs.Row.{rowLine, rowLines, rowNote, rowNotes, rowCount}
-use Rattle.redraw.proofs.Laws.Row.{either-long}
 use Rattle.redraw.proofs.Laws.Still.{count-same}
 use Rattle.frame.specs.Lines.{endToEnd, lineAt, countBelow}
 use Rattle.frame.specs.Rows.{dueBit, lineBy, noteByRows}
-use Rattle.frame.proofs.Laws.Lines.{end-same, length-line}
+use Rattle.frame.proofs.Laws.Lines.{end-same, length-line, either-long}
 use Rattle.frame.proofs.Laws.Rows.{line-of-row}
 
 pub wide-by : (rows r vram frame : List ℕ) → length frame ≡ 49152 → (l : ℕ) → l < 192 → length (lineBy rows r vram frame l) ≡ 256

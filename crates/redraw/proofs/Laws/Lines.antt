@@ -4,7 +4,7 @@ use native.Mathlib.Nat.{le-step, lt-suc-self, mul-suc}
 use native.Mathlib.Numerals.{add-one}
 use native.Mathlib.Omega.{arith}
 use mathlib.Core.Path.{_≡_, refl, sym, ap, ap₂, _∙_}
-use mathlib.Core.Bool.{Bool}
+use mathlib.Core.Bool.{Bool, true, false, cond}
 use mathlib.Core.List.{List, _++_, append-assoc, append-nil}
 use lib.ListN.{length, take, drop, length-append, length-drop, drop-of-length-le}
 use lib.Seq.{take-at, drop-at, drop-drop, length-take-le}
@@ -30,6 +30,11 @@ end-same (suc n) f g h = ap₂ _++_ (end-same n f g (λ k below. h k (le-step be
 
 pub length-line : (frame : List ℕ) (l : ℕ) → 256 * l + 256 ≤ length frame → length (lineAt frame l) ≡ 256
 length-line frame l h = length-take-le 256 (drop (256 * l) frame) (rw length-drop (omega arith))
+
+-- a line is 256 bytes long, due or not
+pub either-long : (b : Bool) (x y : List ℕ) → length x ≡ 256 → length y ≡ 256 → length (cond b x y) ≡ 256
+either-long true x y ex ey = ex
+either-long false x y ex ey = ey
 
 -- A frame of which the first l lines are f's, and the rest is as it was.
 module _ (f : ℕ → List ℕ) (old frame : List ℕ) (l : ℕ) (long : length (endToEnd l f) ≡ 256 * l) (so : frame ≡ endToEnd l f ++ drop (256 * l) old) where
@@ -57,8 +62,8 @@ unfolding countBelow
 count-more n p = rw add-one refl
 
 pub bit-small : (b : Bool) → boolByte b ≤ 1
-bit-small mathlib.Core.Bool.Bool.true = omega arith
-bit-small mathlib.Core.Bool.Bool.false = omega arith
+bit-small true = omega arith
+bit-small false = omega arith
 
 pub count-le : (n : ℕ) (p : ℕ → Bool) → countBelow n p ≤ n
 unfolding countBelow

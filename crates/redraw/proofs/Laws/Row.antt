@@ -2,7 +2,6 @@
 use Prim.Native.Nat.{ℕ, _+_, _*_, _-_, _/_, _%_, _≤_, _<_}
 use native.Mathlib.Omega.{arith}
 use mathlib.Core.Path.{_≡_, sym, ap, ap₂, _∙_}
-use mathlib.Core.Bool.{Bool, true, false, cond}
 use mathlib.Core.List.{List}
 use lib.ListN.{length, getD, take, drop, length-drop}
 use lib.Seq.{getD-take, getD-drop, length-take-le}
@@ -14,7 +13,7 @@ use Rattle.rows.specs.Rows.{planePixel, planeRow}
 use Rattle.scanline.specs.Calls.{colours}
 use Rattle.redraw.specs.Lines.{lineAt}
 use Rattle.redraw.specs.Row.{planeLine, rowLine}
-use Rattle.redraw.proofs.Laws.Lines.{length-line}
+use Rattle.redraw.proofs.Laws.Lines.{length-line, either-long}
 
 -- line k of a row's planes, lent as a part of width w
 pub plane-line : (r vram : List ℕ) (row k w : ℕ) {planes : List ℕ} → w ≡ 256 → k < 8 → planes ≡ planeRow (modeOf r) r vram row → take w (drop (256 * k) planes) ≡ planeLine r vram (8 * row + k)
@@ -31,11 +30,6 @@ plane-line r vram row k w {planes} ew h e =
     ∙ ap (λ (t : List ℕ). getD t (256 * k + x) 0) e
     ∙ getD-tabulate 2048 f (256 * k + x) (omega arith)
     ∙ ap₂ (planePixel (modeOf r) r vram) line column)
-
--- a line is 256 bytes long, due or not
-pub either-long : (b : Bool) (x y : List ℕ) → length x ≡ 256 → length y ≡ 256 → length (cond b x y) ≡ 256
-either-long true x y ex ey = ex
-either-long false x y ex ey = ey
 
 pub wide-row : (r vram : List ℕ) (row due : ℕ) (part : List ℕ) → length part ≡ 2048 → (k : ℕ) → k < 8 → length (rowLine r vram row due part k) ≡ 256
 wide-row r vram row due part e k h = either-long (bit k due) (colours r vram (8 * row + k)) (lineAt part k) (length-tabulate 256 _) (length-line part k (omega arith))

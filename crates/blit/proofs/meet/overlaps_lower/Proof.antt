@@ -6,13 +6,13 @@ use mathlib.Core.Bool.{_||_}
 use lib.ListN.{getD}
 use borrow.Author.Needs.{needs}
 use Rattle.chip.specs.Ranges.{anyBelow}
-use Rattle.blit.specs.Wide.{columnsMeet}
+use Rattle.blit.specs.Wide.{columnsOverlap}
 use Rattle.blit.proofs.Laws.Meet.{any-none, any-more}
 use Rattle.blit.proofs.meet.overlaps_lower.Statement.{statement}
 use Rattle.blit.proofs.meet.overlaps_lower.Tie as tie
 
 abbrev Inv-loop : tie.InvT-loop
-Inv-loop firsts k first any₀ i₀ any i = (i ≤ k) × (any ≡ anyBelow i (λ j. columnsMeet (getD firsts j 0) (getD firsts k 0)))
+Inv-loop firsts k first any₀ i₀ any i = (i ≤ k) × (any ≡ anyBelow i (λ j. columnsOverlap (getD firsts j 0) (getD firsts k 0)))
 
 abbrev μ-loop : tie.MeasureT-loop
 μ-loop firsts k first any₀ i₀ any i = k - i
@@ -45,7 +45,7 @@ loop-again : tie.Need-loop-again Inv-loop μ-loop
 loop-again c =
     let at = c .before .before .before in
     let a = at .before .before .before .args in
-    (search needs, ap₂ _||_ (at .loop .inv .1) (c .overlap .ensures) ∙ sym (any-more (at .loop .i) (λ j. columnsMeet (getD (a .firsts .now) j 0) (getD (a .firsts .now) (a .k) 0))))
+    (search needs, ap₂ _||_ (at .loop .inv .1) (c .overlap .ensures) ∙ sym (any-more (at .loop .i) (λ j. columnsOverlap (getD (a .firsts .now) j 0) (getD (a .firsts .now) (a .k) 0))))
 
 returns : tie.Need-returns Inv-loop μ-loop
 returns c =
