@@ -22,8 +22,8 @@ use Rattle.frame.specs.Lines.{frame_size, notes_size}
 use Rattle.frame.specs.Due.{due_count}
 use Rattle.frame.specs.Calls.{draw_tests}
 use Rattle.snapshot.specs.Calls.{file_tests, read_tests, output_tests, write_tests}
-use Rattle.log.specs.Run as direct
-use Rattle.log.specs.declared.running.Ran.{Ran}
+use Rattle.port_log.specs.Run as direct
+use Rattle.port_log.specs.declared.running.Ran.{Ran}
 use Rattle.birdcleft.specs.Calls.{block_entry, vram_entry, result_through, power_up, control_write, data_write, data_read, status_read, end_of_display, interrupt_line, reset}
 use Rattle.birdcleft.specs.Lines.{draw_line}
 use Rattle.birdcleft.specs.Points.{point, origin}

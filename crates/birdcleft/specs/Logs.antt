@@ -4,9 +4,9 @@ use Rattle.chip.specs.TwoBytes.{low_first}
 use Rattle.chip.specs.Layout.{block_size}
 use Rattle.chip.specs.Refusals.{number_of, refusal_of, if_accepted, vram_test, slice_test}
 use Rattle.chip.specs.declared.refusal.Refusal.{Refusal}
-use Rattle.log.specs.Calls.{read_refusal, write_refusal}
-use Rattle.log.specs.Run as direct
-use Rattle.log.specs.declared.running.Ran.{Ran}
+use Rattle.port_log.specs.Calls.{read_refusal, write_refusal}
+use Rattle.port_log.specs.Run as direct
+use Rattle.port_log.specs.declared.running.Ran.{Ran}
 use Rattle.birdcleft.specs.Calls.{FromC, through, list_through}
 
 -- How many bytes the slice has that a run reports its two larger numbers in.

@@ -2,6 +2,8 @@
 // decoded; then it loads the state and makes the direct call. A call that is lent the block to write stores the next state if
 // the call was accepted; the four that are lent it to read (`vdp_interrupt_line`, `vdp_point`, `vdp_origin`, `vdp_write_snapshot`)
 // store nothing there.
+#![tactic(auto)]
+
 ghost use Rattle.std.specs.Prelude.{◌≡◌, ◌*◌, length};
 ghost use Rattle.chip.specs.Refusals.{number_of, result_of, if_accepted};
 ghost use Rattle.chip.specs.Layout.{block_of};

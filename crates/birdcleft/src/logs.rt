@@ -1,12 +1,12 @@
 // The calls on logs from C.
 ghost use Rattle.std.specs.Prelude.{◌≡◌, ◌*◌, length};
 ghost use Rattle.chip.specs.Refusals.{number_of};
-ghost use Rattle.log.specs.Calls as direct;
+ghost use Rattle.port_log.specs.Calls as direct;
 ghost use Rattle.birdcleft.specs.Logs as logs;
 
 use crate::{finish, result_of, vram_entry};
 use chip::{Refusal, low_first, put};
-use log::Ran;
+use port_log::Ran;
 
 // 256 times the number of a refusal by the tests at entry, or 0.
 fn run_entry(block: &[u8], vram: &[u8], outcome: &[u8]) -> u32
@@ -57,7 +57,7 @@ pub extern "C" fn vdp_run_log(
     if refused != 0 {
         return refused;
     }
-    let ran = log::run(chip::load(block), vram, map, line, log);
+    let ran = port_log::run(chip::load(block), vram, map, line, log);
     report(ran, outcome);
     finish(ran.answer(), block)
 }
@@ -67,7 +67,7 @@ pub extern "C" fn vdp_read_log(log: &[u8], records: &mut [u8]) -> u32
     ensures value { result ≡ logs.read_log log.now records.old }
     ensures records_after { records.new ≡ direct.read_records log.now records.old }
 {
-    result_of(log::read(log, records))
+    result_of(port_log::read(log, records))
 }
 
 #[unsafe(no_mangle)]
@@ -75,5 +75,5 @@ pub extern "C" fn vdp_write_log(records: &[u8], log: &mut [u8]) -> u32
     ensures value { result ≡ logs.write_log records.now log.old }
     ensures log_after { log.new ≡ direct.written_log records.now log.old }
 {
-    result_of(log::write(records, log))
+    result_of(port_log::write(records, log))
 }

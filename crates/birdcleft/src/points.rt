@@ -5,7 +5,7 @@ ghost use Rattle.birdcleft.specs.Points as points;
 use crate::vram_entry;
 
 // What each of the two calls answers.
-#[derive(Drop)]
+#[derive(Clone, Copy)]
 struct PointResults {
     colour: u32,
     origin: u32,

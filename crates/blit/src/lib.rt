@@ -1,4 +1,6 @@
 // The sprites that a scan found, painted eight pixels at a time. Their rows are compared, column for column, as numbers.
+#![tactic(auto)]
+
 mod draw;
 mod meet;
 mod paint;

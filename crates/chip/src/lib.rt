@@ -1,5 +1,7 @@
 // The chip's state and its CPU ports: registers, address, read buffer, waiting first byte, status, redraw mark and the count of
 // lost first bytes.
+#![tactic(auto)]
+
 mod access;
 mod bits;
 mod control;

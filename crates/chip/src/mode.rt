@@ -4,7 +4,7 @@ ghost use Rattle.chip.specs.Modes.{mode_by, mode_of};
 
 use crate::bits::bit;
 
-#[derive(Drop)]
+#[derive(Clone, Copy)]
 pub enum Mode {
     // Display off, or two or more mode bits: neither pattern nor sprites.
     Blank,

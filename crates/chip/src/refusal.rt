@@ -4,7 +4,7 @@ ghost use Rattle.chip.specs.Refusals.{number_of, result_of};
 
 use crate::state::Chip;
 
-#[derive(Drop)]
+#[derive(Clone, Copy)]
 pub enum Refusal {
     Accepted,
     VramLength,
@@ -20,7 +20,7 @@ pub enum Refusal {
 }
 
 // The next state, why the call was refused if it was, and the byte or other number read.
-#[derive(Drop)]
+#[derive(Clone, Copy)]
 pub struct Answer {
     pub chip: Chip,
     pub refusal: Refusal,

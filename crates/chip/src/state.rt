@@ -3,13 +3,13 @@ ghost use Rattle.std.specs.Prelude.{◌≡◌, ◌<◌};
 ghost use Rattle.chip.specs.State.{flag_of, byte_of, kept, masked, well_formed, power_up_state, with_waiting};
 
 // The first byte of a pair of control writes, while the second has not come.
-#[derive(Drop)]
+#[derive(Clone, Copy)]
 pub enum Waiting {
     Nothing,
     First(u8),
 }
 
-#[derive(Drop)]
+#[derive(Clone, Copy)]
 pub struct Chip {
     pub registers: [u8; 8],
     pub address: u16,

@@ -14,15 +14,15 @@ use Rattle.chip.proofs.Laws.Ranges.{and_left, and_right}
 use Rattle.chip.proofs.Laws.Refusals.{all-accepted}
 use Rattle.scanline.specs.Calls.{line_size, draw_line_tests, draw_line_refusal}
 use Rattle.scanline.specs.Colours.{draw_colours_tests, draw_colours_refusal}
-use Rattle.log.specs.Format.{record_bytes}
-use Rattle.log.specs.Records.{operation_of, is_read, value_allowed, allowed, all_allowed, records_of}
-use Rattle.log.specs.Single.{Target, target, answer_by, vram_by, map_by, line_by, answer_to, after}
-use Rattle.log.specs.Run.{differs, End, run_from, run_tests, run_refusal, end_of}
-use Rattle.log.specs.declared.records.Operation.{Operation}
-use Rattle.log.specs.declared.records.Operation.TheVariants.{DataWrite, ControlWrite, DataRead, StatusRead, DrawLine, EndOfDisplay, Reset}
-use Rattle.log.specs.declared.records.Record.{Record}
-use Rattle.log.proofs.Laws.Tested.{accepted-sound, accepted-log}
-use Rattle.log.proofs.Laws.Sound.{Sound, tests_by, passes, sound-after, Values}
+use Rattle.port_log.specs.Format.{record_bytes}
+use Rattle.port_log.specs.Records.{operation_of, is_read, value_allowed, allowed, all_allowed, records_of}
+use Rattle.port_log.specs.Single.{Target, target, answer_by, vram_by, map_by, line_by, answer_to, after}
+use Rattle.port_log.specs.Run.{differs, End, run_from, run_tests, run_refusal, end_of}
+use Rattle.port_log.specs.declared.records.Operation.{Operation}
+use Rattle.port_log.specs.declared.records.Operation.TheVariants.{DataWrite, ControlWrite, DataRead, StatusRead, DrawLine, EndOfDisplay, Reset}
+use Rattle.port_log.specs.declared.records.Record.{Record}
+use Rattle.port_log.proofs.Laws.Tested.{accepted-sound, accepted-log}
+use Rattle.port_log.proofs.Laws.Sound.{Sound, tests_by, passes, sound-after, Values}
 use Rattle.claims.specs.Bench.{Bench, Typed}
 use Rattle.claims.specs.Call.{Op, direct, Call, whole}
 use Rattle.claims.specs.Step.{Step, step, run}

@@ -6,7 +6,7 @@ use Rattle.chip.specs.declared.state.Chip.{Chip}
 use Rattle.chip.specs.declared.refusal.Answer.{Answer}
 use Rattle.frame.specs.Lines.{frame_size, notes_size}
 use Rattle.chip.specs.TwoBytes.{low_first_at}
-use Rattle.log.specs.declared.running.Ran.{Ran}
+use Rattle.port_log.specs.declared.running.Ran.{Ran}
 use Rattle.birdcleft.specs.Calls.{FromC}
 use Rattle.claims.specs.Bench.{Bench}
 

@@ -7,7 +7,7 @@ use Rattle.scanline.specs.Calls as scanline
 use Rattle.point.specs.Calls as points
 use Rattle.frame.specs.Calls as frame
 use Rattle.snapshot.specs.Calls as snapshot
-use Rattle.log.specs.Run as logs
+use Rattle.port_log.specs.Run as logs
 use Rattle.birdcleft.specs.Calls as c-ports
 use Rattle.birdcleft.specs.Lines as c-lines
 use Rattle.birdcleft.specs.Points as c-points

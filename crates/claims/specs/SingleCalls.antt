@@ -1,10 +1,10 @@
 -- The single calls of a log's records, and what it means that a run is those calls.
 use Rattle.std.specs.Prelude.{ℕ, suc, ◌+◌, ◌≡◌, true, List, [], ◌∷◌, length, take, drop}
-use Rattle.log.specs.Format.{record_bytes}
-use Rattle.log.specs.Records.{operation_of, is_read, records_of}
-use Rattle.log.specs.declared.records.Operation.{Operation}
-use Rattle.log.specs.declared.records.Operation.TheVariants.{DataWrite, ControlWrite, DataRead, StatusRead, DrawLine, EndOfDisplay, Reset}
-use Rattle.log.specs.declared.records.Record.{Record}
+use Rattle.port_log.specs.Format.{record_bytes}
+use Rattle.port_log.specs.Records.{operation_of, is_read, records_of}
+use Rattle.port_log.specs.declared.records.Operation.{Operation}
+use Rattle.port_log.specs.declared.records.Operation.TheVariants.{DataWrite, ControlWrite, DataRead, StatusRead, DrawLine, EndOfDisplay, Reset}
+use Rattle.port_log.specs.declared.records.Record.{Record}
 use Rattle.claims.specs.Bench.{Bench}
 use Rattle.claims.specs.Call.{Op, direct, Call, whole}
 use Rattle.claims.specs.Step.{Step, step, run}

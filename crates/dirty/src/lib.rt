@@ -1,4 +1,6 @@
 // Which lines fetch a dirty byte, eight lines at a time.
+#![tactic(auto)]
+
 mod clear;
 mod joined;
 mod marks;

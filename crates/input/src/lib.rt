@@ -1,4 +1,6 @@
 // The bytes that come in on standard input.
+#![tactic(auto)]
+
 ghost use Rattle.input.specs.Came.{buffer_size, long_buffer_size, Came};
 
 // Reads into the buffer, from its front on, until it is full, the input ends or a read fails. Answers how many bytes came.

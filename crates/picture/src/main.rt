@@ -1,4 +1,6 @@
 // Writes the snapshot on standard input as a binary PPM, piece by piece.
+#![tactic(auto)]
+
 fn main() {
     let mut file = [0u8; 16407];
     let count = input::read(&mut file);

@@ -1,4 +1,6 @@
 // Shows the colour of one point of the snapshot on standard input, and where it comes from.
+#![tactic(auto)]
+
 mod arguments;
 mod names;
 mod origins;

@@ -7,7 +7,7 @@ use crate::address::{colour_address, name_address, pattern_address};
 use crate::column::{in_cells, place_of};
 use chip::Mode;
 
-#[derive(Drop)]
+#[derive(Clone, Copy)]
 pub struct CellAddresses {
     pub name: usize,
     pub pattern: usize,

@@ -8,7 +8,7 @@ use crate::address::{colour_address, name_address, pattern_address};
 use chip::Mode;
 
 // A pattern byte, and the colours of its 1 bits (high nibble) and 0 bits (low nibble).
-#[derive(Drop)]
+#[derive(Clone, Copy)]
 pub struct Cell {
     pub pattern: u8,
     pub colours: u8,

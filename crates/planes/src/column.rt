@@ -23,7 +23,7 @@ pub fn in_cells(mode: Mode, x: usize) -> bool
 }
 
 // Which cell of a line, and which pixel of it, from the left.
-#[derive(Drop)]
+#[derive(Clone, Copy)]
 pub struct CellPixel {
     pub cell: usize,
     pub pixel: usize,

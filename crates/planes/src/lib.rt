@@ -1,4 +1,6 @@
 // The pattern plane: the cells of a line in each mode, and the pixels that they show over the backdrop.
+#![tactic(auto)]
+
 mod address;
 mod addresses;
 mod cell;

@@ -4,7 +4,7 @@ ghost use Rattle.planes.specs.Origin as origins;
 
 use chip::bit;
 
-#[derive(Drop)]
+#[derive(Clone, Copy)]
 pub enum Origin {
     // The sprite's number in the attribute table.
     Sprite(u8),
@@ -30,7 +30,7 @@ impl Origin {
     }
 }
 
-#[derive(Drop)]
+#[derive(Clone, Copy)]
 pub struct Pixel {
     pub colour: u8,
     pub origin: Origin,

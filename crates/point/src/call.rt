@@ -6,7 +6,7 @@ use crate::pixel::point_pixel;
 use chip::{Answer, Chip, Refusal};
 
 // The state as given, why the call was refused if it was, the colour, and the code of its origin.
-#[derive(Drop)]
+#[derive(Clone, Copy)]
 pub struct PointAnswer {
     pub chip: Chip,
     pub refusal: Refusal,

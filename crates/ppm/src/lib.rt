@@ -1,4 +1,6 @@
 // A snapshot as a picture: a binary PPM of 256 by 192 pixels, written piece by piece into lent slices.
+#![tactic(auto)]
+
 mod paint;
 mod palette;
 mod walk;

@@ -8,21 +8,21 @@ use crate::paint::paint;
 use chip::Chip;
 
 // What is written next: the line of a refusal, the header, or a line of the picture.
-#[derive(Drop)]
+#[derive(Clone, Copy)]
 enum Next {
     Refused(u8),
     Header,
     Line(u8),
 }
 
-#[derive(Drop)]
+#[derive(Clone, Copy)]
 pub struct Walk {
     next: Next,
     chip: Chip,
 }
 
 // What a step answers: the walk behind the piece, how many bytes it has, and whether it is the last.
-#[derive(Drop)]
+#[derive(Clone, Copy)]
 pub struct Piece {
     pub walk: Walk,
     pub written: usize,

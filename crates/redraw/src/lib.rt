@@ -1,4 +1,6 @@
 // The eight lines of one row of names: those that are due are drawn into a lent part of the frame, with their notes.
+#![tactic(auto)]
+
 mod line;
 mod row;
 

@@ -15,7 +15,7 @@ use scanline::note_of;
 use sets::scan_by_set;
 
 // Where the pattern plane of a row's lines is drawn already.
-#[derive(Drop)]
+#[derive(Clone, Copy)]
 pub enum Planes {
     // In the frame.
     Here,

@@ -12,8 +12,8 @@ use Rattle.chip.specs.declared.refusal.Refusal.{Refusal}
 use Rattle.chip.specs.declared.refusal.Refusal.TheVariants.{LogForm}
 use Rattle.chip.proofs.Laws.Refusals.{is-accepted}
 use Rattle.scanline.specs.Calls.{line_size}
-use Rattle.log.specs.Tests.{size_allowed, log_tests}
-use Rattle.log.proofs.Laws.Tested.{log-decides}
+use Rattle.port_log.specs.Tests.{size_allowed, log_tests}
+use Rattle.port_log.proofs.Laws.Tested.{log-decides}
 use Rattle.input.specs.Came.{long_buffer_size, came_in, Came}
 use Rattle.replay.specs.Streams.{log_part, start_state, start_vram, clear_list, replay_refusal, snapshot_refusal}
 use Rattle.replay.proofs.Laws.Refused.{by-snapshot, by-run}

@@ -9,8 +9,8 @@ use Rattle.chip.specs.declared.refusal.Refusal.{Refusal}
 use Rattle.scanline.specs.Calls.{line_size}
 use Rattle.snapshot.specs.Format.{snapshot_size, snapshot_of}
 use Rattle.snapshot.specs.Calls.{read_refusal, read_snapshot, read_vram}
-use Rattle.log.specs.Run.{run_log, run_vram}
-use Rattle.log.specs.declared.running.Ran.{Ran}
+use Rattle.port_log.specs.Run.{run_log, run_vram}
+use Rattle.port_log.specs.declared.running.Ran.{Ran}
 use Rattle.text.specs.Lines.{refused_text}
 use Rattle.replay.specs.Report.{report_text}
 use Rattle.replay.specs.declared.streams.Written.{Written}

@@ -1,4 +1,6 @@
 // Runs the log that stands behind a snapshot on standard input, and writes the snapshot after the run.
+#![tactic(auto)]
+
 mod report;
 mod streams;
 

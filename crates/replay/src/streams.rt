@@ -10,7 +10,7 @@ use chip::{Chip, Refusal};
 use text::put_refusal;
 
 // How many bytes go to standard output, and to standard error.
-#[derive(Drop)]
+#[derive(Clone, Copy)]
 pub struct Written {
     pub output: usize,
     pub errors: usize,
@@ -47,7 +47,7 @@ pub fn replay(input: &[u8], output: &mut [u8; 16406], errors: &mut [u8; 64]) -> 
     let mut map = [0u8; 2048];
     let mut line = [0u8; 256];
     let start = answer.chip;
-    let ran = log::run(start, &mut vram, &mut map, &mut line, &input[16406..]);
+    let ran = port_log::run(start, &mut vram, &mut map, &mut line, &input[16406..]);
     let run_refusal = ran.refusal;
     if run_refusal.number() != 0 {
         return refuse(run_refusal, errors);

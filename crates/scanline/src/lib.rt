@@ -1,4 +1,6 @@
 // A line: its pattern plane, its sprites and its note; the call that draws it, with its origins or without.
+#![tactic(auto)]
+
 mod call;
 mod colours;
 mod draw;

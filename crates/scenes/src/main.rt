@@ -1,4 +1,6 @@
 // Draws chosen lines of built-in set-ups, and prints the runs of each and the status after it.
+#![tactic(auto)]
+
 mod modes;
 mod print;
 mod put;

@@ -1,4 +1,6 @@
 // The sprites that cover each line, found in one pass over the attribute table, and a line's scan by them.
+#![tactic(auto)]
+
 mod scan;
 mod set;
 

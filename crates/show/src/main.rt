@@ -1,4 +1,6 @@
 // Shows the snapshot on standard input as text, piece by piece.
+#![tactic(auto)]
+
 fn main() {
     let mut file = [0u8; 16407];
     let count = input::read(&mut file);

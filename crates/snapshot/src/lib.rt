@@ -1,4 +1,6 @@
 // Snapshots: VRAM and the state as one file, with a trailer that points back and a sum.
+#![tactic(auto)]
+
 mod parts;
 mod reading;
 mod sums;

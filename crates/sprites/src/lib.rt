@@ -1,4 +1,6 @@
 // The sprites of a line: the scan of the attribute table, the pixels of the drawn ones, and their coincidence.
+#![tactic(auto)]
+
 mod column;
 mod columns;
 mod draw;

@@ -9,7 +9,7 @@ use crate::shape::{covers, is_terminator};
 use crate::sprite::{Sprite, attribute_address, sprite_of};
 
 // How a scan ended.
-#[derive(Drop)]
+#[derive(Clone, Copy)]
 pub enum Ended {
     Terminator,
     // The number of the fifth sprite that covers the line.
@@ -19,7 +19,7 @@ pub enum Ended {
 }
 
 // The first four sprites that cover the line.
-#[derive(Drop)]
+#[derive(Clone, Copy)]
 pub struct Scan {
     pub sprites: [Sprite; 4],
     pub drawn: usize,

@@ -9,7 +9,7 @@ ghost use Rattle.sprites.specs.Scan as scan;
 use crate::shape::{is_large, is_magnified, row_offset, scaled};
 use chip::bit;
 
-#[derive(Drop)]
+#[derive(Clone, Copy)]
 pub struct Sprite {
     // The first column, counted from 32 left of the screen.
     pub first: u16,

@@ -1,4 +1,6 @@
 // The text that shows a snapshot: what a file is answered with, piece by piece, into a lent slice.
+#![tactic(auto)]
+
 mod numbers;
 mod range;
 mod refusal;

@@ -12,7 +12,7 @@ use chip::{Chip, Refusal};
 use scanline::draw_row;
 
 // What is next: the line of a refusal, the status line, a line of the picture, or the last range.
-#[derive(Drop)]
+#[derive(Clone, Copy)]
 enum Next {
     Refused(u8),
     Status,
@@ -21,7 +21,7 @@ enum Next {
 }
 
 // What is next, the state that the file holds, and the range so far: lines `from` to `to`, each with these colours.
-#[derive(Drop)]
+#[derive(Clone, Copy)]
 pub struct Walk {
     next: Next,
     chip: Chip,
@@ -31,7 +31,7 @@ pub struct Walk {
 }
 
 // The walk after a step, how many bytes the step wrote, and whether they are the last.
-#[derive(Drop)]
+#[derive(Clone, Copy)]
 pub struct Piece {
     pub walk: Walk,
     pub written: usize,

@@ -1,4 +1,6 @@
 // Eight pixels as one number of 64 bits, so that they are read, chosen and stored at once.
+#![tactic(auto)]
+
 mod mask;
 mod word;
 

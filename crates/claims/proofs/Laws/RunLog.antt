@@ -20,16 +20,16 @@ use Rattle.chip.proofs.Laws.Ranges.{and_left, and_right}
 use Rattle.chip.proofs.Laws.Ready.{either}
 use Rattle.chip.proofs.Laws.Refusals.{AllPass, all-accepted, is-accepted, differ}
 use Rattle.chip.specs.TwoBytes.{low_first_at}
-use Rattle.log.specs.Format.{log_trailer_at, record_bytes}
-use Rattle.log.specs.Records.{operation_of, value_allowed, allowed, all_allowed, records_of}
-use Rattle.log.specs.Single.{Target, target, answer_by, vram_by, map_by, line_by, answer_to, after}
-use Rattle.log.specs.Run.{differs, End, run_from, ran_of, refused_run, run_own_tests, run_refusal, run_log, run_vram, run_map, run_line, answer_of, end_of}
-use Rattle.log.specs.declared.records.Operation.{Operation}
-use Rattle.log.specs.declared.records.Operation.TheVariants.{DataWrite, ControlWrite, DataRead, StatusRead, DrawLine, EndOfDisplay, Reset}
-use Rattle.log.specs.declared.records.Record.{Record}
-use Rattle.log.specs.declared.running.Ran.{Ran}
-use Rattle.log.proofs.Laws.Tested.{ran-refusal, accepted-sound, accepted-log}
-use Rattle.log.proofs.Laws.Sound.{Sound, passes, sound-after, Values, values-bytes, run_sound, found-byte}
+use Rattle.port_log.specs.Format.{log_trailer_at, record_bytes}
+use Rattle.port_log.specs.Records.{operation_of, value_allowed, allowed, all_allowed, records_of}
+use Rattle.port_log.specs.Single.{Target, target, answer_by, vram_by, map_by, line_by, answer_to, after}
+use Rattle.port_log.specs.Run.{differs, End, run_from, ran_of, refused_run, run_own_tests, run_refusal, run_log, run_vram, run_map, run_line, answer_of, end_of}
+use Rattle.port_log.specs.declared.records.Operation.{Operation}
+use Rattle.port_log.specs.declared.records.Operation.TheVariants.{DataWrite, ControlWrite, DataRead, StatusRead, DrawLine, EndOfDisplay, Reset}
+use Rattle.port_log.specs.declared.records.Record.{Record}
+use Rattle.port_log.specs.declared.running.Ran.{Ran}
+use Rattle.port_log.proofs.Laws.Tested.{ran-refusal, accepted-sound, accepted-log}
+use Rattle.port_log.proofs.Laws.Sound.{Sound, passes, sound-after, Values, values-bytes, run_sound, found-byte}
 use Rattle.birdcleft.specs.Calls.{result_through, block_through, list_through}
 use Rattle.birdcleft.specs.Logs.{outcome_size, run_entry, reported}
 use Rattle.birdcleft.proofs.Laws.{slice_tested}

@@ -24,13 +24,13 @@ use Rattle.snapshot.proofs.Laws.Held.{ready_held, bytes-held}
 use Rattle.snapshot.proofs.Laws.Parts.{length-vram}
 use Rattle.snapshot.proofs.Laws.Refusals.{Readable, accepted-readable, write-accepted}
 use Rattle.snapshot.proofs.Laws.Written.{length-snapshot}
-use Rattle.log.specs.Format.{log_trailer_at, record_bytes}
-use Rattle.log.specs.Records.{records_of}
-use Rattle.log.specs.Single.{target}
-use Rattle.log.specs.Run.{End, end_of, ran_of, refused_run, run_refusal, run_log, run_vram}
-use Rattle.log.specs.declared.running.Ran.{Ran}
-use Rattle.log.proofs.Laws.Sound.{Sound, values-bytes, run_sound}
-use Rattle.log.proofs.Laws.Tested.{ran-refusal}
+use Rattle.port_log.specs.Format.{log_trailer_at, record_bytes}
+use Rattle.port_log.specs.Records.{records_of}
+use Rattle.port_log.specs.Single.{target}
+use Rattle.port_log.specs.Run.{End, end_of, ran_of, refused_run, run_refusal, run_log, run_vram}
+use Rattle.port_log.specs.declared.running.Ran.{Ran}
+use Rattle.port_log.proofs.Laws.Sound.{Sound, values-bytes, run_sound}
+use Rattle.port_log.proofs.Laws.Tested.{ran-refusal}
 use Rattle.replay.specs.Streams.{snapshot_part, log_part, start_state, start_vram, clear_list, ran, vram_after, replay_refusal, replayed, written_of, snapshot_refusal, report_of, after_run}
 use Rattle.replay.proofs.Laws.Refused.{neither-refused, streams-accepted}
 

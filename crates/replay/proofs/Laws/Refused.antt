@@ -15,7 +15,7 @@ use Rattle.chip.specs.declared.refusal.Refusal.TheVariants.{Accepted, SnapshotLe
 use Rattle.chip.proofs.Laws.Refusals.{is-accepted, differ, the-new}
 use Rattle.snapshot.specs.Format.{snapshot_of}
 use Rattle.snapshot.specs.Calls.{read_refusal}
-use Rattle.log.specs.declared.running.Ran.{Ran}
+use Rattle.port_log.specs.declared.running.Ran.{Ran}
 use Rattle.text.specs.Lines.{refused_text}
 use Rattle.replay.specs.Report.{report_text}
 use Rattle.replay.specs.Streams.{snapshot_part, ran, vram_after, snapshot_refusal, replay_refusal, Streams, report_of, after_run, after_refusal, replayed, written_of}

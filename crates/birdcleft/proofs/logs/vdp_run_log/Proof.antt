@@ -1,7 +1,7 @@
 -- `vdp_run_log` meets its contract.
 use mathlib.Core.Path.{ap, ◌∙◌}
 use borrow.Author.Rules.{rules}
-use Rattle.log.specs.Run.{answer_of}
+use Rattle.port_log.specs.Run.{answer_of}
 use Rattle.birdcleft.proofs.Laws.{lengths, at_entry_lem, run-seventeen, outcome-four, direct-result, direct_block, direct-list}
 use Rattle.birdcleft.proofs.logs.vdp_run_log.Statement.{statement}
 use Rattle.birdcleft.proofs.logs.vdp_run_log.Tie as tie

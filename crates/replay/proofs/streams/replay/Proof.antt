@@ -16,8 +16,8 @@ use Rattle.chip.specs.declared.refusal.Refusal.TheVariants.{Accepted, SnapshotLe
 use Rattle.chip.proofs.Laws.Refusals.{is-accepted}
 use Rattle.scanline.specs.Calls.{line_size}
 use Rattle.snapshot.specs.Calls.{read_snapshot, read_vram}
-use Rattle.log.specs.Run.{run_log}
-use Rattle.log.specs.declared.running.Ran.{Ran}
+use Rattle.port_log.specs.Run.{run_log}
+use Rattle.port_log.specs.declared.running.Ran.{Ran}
 use Rattle.replay.specs.Streams.{snapshot_part, log_part, clear_list, ran, vram_after, replay_refusal, snapshot_refusal}
 use Rattle.replay.proofs.Laws.Refused.{too_short, by-snapshot, by-run, refused-writes}
 use Rattle.replay.proofs.Laws.Accepted.{ran-from, vram-from, accepted-writes}

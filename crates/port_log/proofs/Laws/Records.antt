@@ -1,0 +1,38 @@
+-- The records that bytes hold, from record i on: record i and those after it, and none where less than two bytes are left.
+use Prim.Native.Nat.{ℕ, zero, suc, ◌+◌, ◌*◌, ◌≤◌, ◌<◌}
+use native.Mathlib.Omega.{arith}
+use native.Mathlib.Numerals.{add-one}
+use mathlib.Core.Path.{◌≡◌, refl, sym, ap, ◌∙◌}
+use mathlib.Core.List.{List, [], ◌∷◌}
+use lib.ListN.{length, get_or, drop}
+use lib.Seq.{drop-cons}
+use Rattle.port_log.specs.Records.{operation_of, records_of, record_at}
+use Rattle.port_log.specs.declared.records.Operation.TheVariants.{Reset}
+
+pub records-none : (l : List ℕ) → length l < 2 → records_of l ≡ []
+unfolding records_of
+records-none [] h = refl
+records-none (x ∷ []) h = refl
+records-none (x ∷ v ∷ l) h = absurd (omega arith)
+
+pub records-next : (l : List ℕ) (i : ℕ) → 2 * i + 1 < length l → records_of (drop (2 * i) l) ≡ record_at l i ∷ records_of (drop (2 * (i + 1)) l)
+unfolding records_of
+records-next l i h =
+    let behind : suc (2 * i + 1) ≡ 2 * (i + 1) = omega arith in
+    ap records_of
+    (drop-cons l (2 * i) 0 (omega arith)
+    ∙ ap (λ (n : ℕ). get_or l (2 * i) 0 ∷ drop n l) (sym (add-one (2 * i)))
+    ∙ ap (λ (t : List ℕ). get_or l (2 * i) 0 ∷ t) (drop-cons l (2 * i + 1) 0 h)
+    ∙ ap (λ (n : ℕ). get_or l (2 * i) 0 ∷ get_or l (2 * i + 1) 0 ∷ drop n l) behind)
+
+-- no number above 5 names another operation
+pub others-reset : (n : ℕ) → 6 ≤ n → operation_of n ≡ Reset
+unfolding operation_of
+others-reset (suc (suc (suc (suc (suc (suc zero)))))) h = refl
+others-reset (suc (suc (suc (suc (suc (suc (suc n))))))) h = refl
+others-reset zero h = absurd (omega arith)
+others-reset (suc zero) h = absurd (omega arith)
+others-reset (suc (suc zero)) h = absurd (omega arith)
+others-reset (suc (suc (suc zero))) h = absurd (omega arith)
+others-reset (suc (suc (suc (suc zero)))) h = absurd (omega arith)
+others-reset (suc (suc (suc (suc (suc zero))))) h = absurd (omega arith)

@@ -1,0 +1,49 @@
+-- `value_allowed` meets its contract.
+use borrow.Author.Rules.{rules}
+use Rattle.port_log.proofs.records.value_allowed.Statement.{statement}
+use Rattle.port_log.proofs.records.value_allowed.Tie as tie
+
+enum_told : tie.Need-enum-told
+enum_told c = search rules
+
+enum-told-2 : tie.Need-enum-told-2
+enum-told-2 c = search rules
+
+enum-told-3 : tie.Need-enum-told-3
+enum-told-3 c = search rules
+
+enum-told-4 : tie.Need-enum-told-4
+enum-told-4 c = search rules
+
+enum-told-5 : tie.Need-enum-told-5
+enum-told-5 c = search rules
+
+enum-told-6 : tie.Need-enum-told-6
+enum-told-6 c = search rules
+
+enum-told-7 : tie.Need-enum-told-7
+enum-told-7 c = search rules
+
+returns : tie.Need-returns
+returns c = search rules
+
+returns-2 : tie.Need-returns-2
+returns-2 c = search rules
+
+returns-3 : tie.Need-returns-3
+returns-3 c = search rules
+
+returns-4 : tie.Need-returns-4
+returns-4 c = search rules
+
+returns-5 : tie.Need-returns-5
+returns-5 c = rw c.enum-told5.given.1
+
+returns-6 : tie.Need-returns-6
+returns-6 c = rw c.enum-told6.given.1
+
+returns-7 : tie.Need-returns-7
+returns-7 c = rw c.enum-told7.given.1
+
+pub value-allowed-spec : {M : Type 1} → statement M
+value-allowed-spec = tie.close (tie.spec enum_told enum-told-2 enum-told-3 enum-told-4 enum-told-5 enum-told-6 enum-told-7 returns returns-2 returns-3 returns-4 returns-5 returns-6 returns-7)
