@@ -1,0 +1,12 @@
+-- `power_up` meets its contract.
+use native.Mathlib.Omega.{arith}
+use lib.ListN.{length}
+use mathlib.Core.Path.{◌≡◌, refl}
+use borrow.Author.Tests.{eq-eqb, ne_eqb}
+use borrow.Author.Rules.{rules}
+use Rattle.chip.proofs.state.Chip.power_up.Goals as goal
+
+pub returns-clause-vram_after : goal.returns-clause-vram_after
+returns-clause-vram_after c =
+    let size : length c.args.vram.now ≡ 16384 = omega arith in
+    rw (eq-eqb _ _ size) (rw size at c.fill.ensures)
