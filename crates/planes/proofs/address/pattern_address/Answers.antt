@@ -1,0 +1,27 @@
+-- `pattern_address` meets its contract.
+use native.Mathlib.Omega.{arith}
+use lib.Dec.{lit<}
+use Rattle.chip.proofs.Laws.Tables.{at-most-mask}
+use Rattle.planes.specs.Cells.{pattern_address}
+use borrow.Author.Rules.{rules}
+use Rattle.planes.proofs.address.pattern_address.Goals as goal
+
+pub returns-in-Blank : goal.returns-in-Blank
+unfolding pattern_address
+returns-in-Blank c = rw c.in-Blank.is
+
+pub returns-in-GraphicsI : goal.returns-in-GraphicsI
+unfolding pattern_address
+returns-in-GraphicsI c = rw c.in-GraphicsI.is
+
+pub returns-in-GraphicsII : goal.returns-in-GraphicsII
+unfolding pattern_address
+returns-in-GraphicsII c = rw c.in-GraphicsII.is
+
+pub returns-in-Multicolor : goal.returns-in-Multicolor
+unfolding pattern_address
+returns-in-Multicolor c = rw c.in-Multicolor.is
+
+pub returns-in-Text : goal.returns-in-Text
+unfolding pattern_address
+returns-in-Text c = rw c.in-Text.is
