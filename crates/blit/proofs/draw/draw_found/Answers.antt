@@ -1,0 +1,25 @@
+-- `draw_found` meets its contract.
+use Prim.Native.Nat.{◌-◌, ◌≤◌, ◌<◌}
+use native.Mathlib.Omega.{arith}
+use mathlib.Core.Path.{◌≡◌, refl, ◌∙◌}
+use borrow.Author.Rules.{rules}
+use lib.ListN.{get_or, take, drop}
+use Rattle.sprites.specs.Pixels.{coincidence}
+use Rattle.sprites.specs.Scanned.{no_sprite}
+use Rattle.sprites.proofs.Laws.Draw.{Over, over_none, over-one, one_lower, none-higher, line-long}
+use Rattle.blit.proofs.Laws.Meet.{near-columns, rows-coincide}
+use Rattle.blit.proofs.draw.draw_found.Goals as goal
+
+pub loop-k-init : goal.loop-k-init
+loop-k-init c =
+    let held = c.requires.2 in
+    (omega arith, rw (none-higher c.args.scan.sprites c.args.scan.drawn (omega (arith, held.room, held.few))) (record { shown = (over_none {r = c.args.r} c.requires.0).shown; found = refl }))
+
+pub loop-k-preserved : goal.loop-k-preserved
+loop-k-preserved c =
+    let h = c.loop-k in
+    let held = c.requires.2 in
+    let sprites = c.args.scan.sprites in
+    let n = c.args.scan.drawn in
+    let painted = over-one h.invariant.1 (get_or sprites (h.k - 1) no_sprite) c.paint_found.ensures refl in
+    (omega arith, rw (one_lower sprites n h.k no_sprite c.loop-k-test.true h.invariant.0 (omega (arith, held.room, held.few))) (record { shown = painted.shown; found = refl }))

@@ -1,0 +1,17 @@
+-- `overlaps_lower` meets its contract.
+use Prim.Native.Nat.{◌-◌, ◌≤◌}
+use native.Mathlib.Omega.{arith}
+use mathlib.Core.Path.{◌≡◌, sym, ap₂, ◌∙◌}
+use mathlib.Core.Bool.{◌||◌}
+use lib.ListN.{get_or}
+use borrow.Author.Rules.{rules}
+use Rattle.chip.specs.Ranges.{any_below}
+use Rattle.blit.specs.Wide.{columns_overlap}
+use Rattle.blit.proofs.Laws.Meet.{any_none, any-more}
+use Rattle.blit.proofs.meet.overlaps_lower.Given as goal
+
+abbrev pub invariant-loop-i : goal.invariant-loop-i
+invariant-loop-i l = (l.i ≤ l.k) × (l.any ≡ any_below l.i (λ j. columns_overlap (get_or l.firsts j 0) (get_or l.firsts l.k 0)))
+
+abbrev pub decreases-loop-i : goal.decreases-loop-i
+decreases-loop-i l = l.k - l.i

@@ -1,0 +1,49 @@
+-- `draw_graphics_one`: the cells before `i` are painted.
+use Prim.Native.Nat.{ℕ, ◌+◌, ◌-◌, ◌*◌, ◌/◌, ◌≤◌, ◌<◌}
+use native.Mathlib.Omega.{arith}
+use mathlib.Core.Path.{◌≡◌, ◌∙◌}
+use mathlib.Core.List.{List}
+use borrow.Author.Rules.{rules}
+use lib.Dec.{lit<}
+use lib.ListN.{length, get_or}
+use Rattle.chip.specs.State.{Bytes, masks, register}
+use Rattle.chip.specs.declared.mode.Mode.TheVariants.{GraphicsI}
+use Rattle.chip.proofs.Laws.Tables.{at-most-mask}
+use Rattle.rows.proofs.Laws.Cells.{cell-graphics-one}
+use Rattle.rows.proofs.Laws.Paints.{blended, shown}
+use Rattle.rows.proofs.Laws.Plane.{settled-cells, all_settled}
+use Rattle.rows.proofs.Laws.Settled.{settled-none}
+use Rattle.rows.proofs.Laws.Tiles.{Tiled, tiled-none, tiled-more}
+use Rattle.rows.proofs.draw.draw_graphics_one.Invariants.{tile}
+use Rattle.rows.proofs.draw.draw_graphics_one.Goals as goal
+
+pub bounds-vram-names : goal.bounds-vram-names
+bounds-vram-names c =
+    let most : (n : ℕ) → n < 8 → register n c.args.r ≤ get_or masks n 0 = λ n h. at-most-mask c.args.r c.requires.0 n h in
+    omega (arith, most 2 (lit< tt))
+
+pub paint_patterns-requires : goal.paint_patterns-requires
+paint_patterns-requires c =
+    let most : (n : ℕ) → n < 8 → register n c.args.r ≤ get_or masks n 0 = λ n h. at-most-mask c.args.r c.requires.0 n h in
+    let name : ℕ = let a = c.args in get_or a.vram.now (register 2 a.t1 * 1024 + a.row * 32 + c.loop-i.i) 0 in
+    let bytes : Bytes c.args.vram.now = λ i. (c.shared_slice_known-1.given i).fits in
+    let name-byte : name < 256 = bytes _ in
+    (c.loop-i.invariant.1.long ∙ c.requires.5, omega arith, omega (arith, most 4 (lit< tt), name-byte), c.requires.3)
+
+pub loop-i-preserved : goal.loop-i-preserved
+loop-i-preserved c =
+    let at = c.loop-i in
+    (omega arith, tiled-more GraphicsI (omega arith) (omega arith) at.invariant.1 c.paint_patterns.ensures)
+
+pub returns : goal.returns
+returns c =
+    let bytes : Bytes c.args.vram.now = λ i. (c.shared_slice_known-1.given i).fits in
+    let at = c.loop-i in
+    let a = c.args in
+    let vram = a.vram.now in
+    let e : at.i ≡ 32 = omega arith in
+    all_settled GraphicsI a.t1 vram a.row
+    (settled-cells GraphicsI a.t1 vram a.row
+    (λ i k j hi hk hj. shown c.requires.4 (cell-graphics-one a.t1 vram a.row k i hk) (bytes _) j hj)
+    (settled-none c.requires.5)
+    (rw e at at.invariant.1))

@@ -1,0 +1,31 @@
+-- `draw_multicolor`: the cells before `i` are painted.
+use Prim.Native.Nat.{ℕ, ◌+◌, ◌-◌, ◌*◌, ◌%◌, ◌≤◌, ◌<◌}
+use native.Mathlib.Omega.{arith}
+use mathlib.Core.Path.{◌≡◌, refl, ◌∙◌}
+use mathlib.Core.Bool.{cond}
+use mathlib.Core.List.{List}
+use borrow.Author.Rules.{rules}
+use lib.Dec.{ltb, lit<}
+use lib.ListN.{get_or}
+use Rattle.chip.specs.State.{Bytes, masks, register}
+use Rattle.chip.specs.declared.mode.Mode.TheVariants.{Multicolor}
+use Rattle.chip.proofs.Laws.Tables.{at-most-mask}
+use Rattle.words.specs.Words.{byte_of}
+use Rattle.rows.proofs.Laws.Cells.{cell-upper, cell-lower}
+use Rattle.rows.proofs.Laws.Plane.{settled-cells, all_settled}
+use Rattle.rows.proofs.Laws.Settled.{settled-none}
+use Rattle.rows.proofs.Laws.Shown.{word-half}
+use Rattle.rows.proofs.Laws.Tiles.{Tiled, tiled-none, tiled-more}
+use Rattle.rows.proofs.draw.draw_multicolor.Given as goal
+
+-- pixel j of line k of cell i
+abbrev pub tile : List ℕ → List ℕ → ℕ → ℕ → ℕ → ℕ → ℕ → ℕ
+tile vram words names patterns i k j =
+    let place : ℕ = patterns + 8 * get_or vram (names + i) 0 in
+    cond (ltb k 4) (byte_of j (get_or words (get_or vram place 0) 0)) (byte_of j (get_or words (get_or vram (place + 1) 0) 0))
+
+abbrev pub invariant-loop-i : goal.invariant-loop-i
+invariant-loop-i l = (l.i ≤ 32) × Tiled Multicolor (tile l.vram l.words l.names l.patterns) l.part l.initial.part l.i
+
+abbrev pub decreases-loop-i : goal.decreases-loop-i
+decreases-loop-i l = 32 - l.i

@@ -1,0 +1,17 @@
+-- `multicolor_words`: the high nibbles before `high` have their words.
+use Prim.Native.Nat.{◌+◌, ◌-◌, ◌*◌, ◌≤◌}
+use native.Mathlib.Omega.{arith}
+use mathlib.Core.Path.{◌≡◌, refl}
+use borrow.Author.Rules.{rules}
+use Rattle.chip.specs.declared.mode.Mode.TheVariants.{Multicolor}
+use Rattle.rows.specs.Rows.{byte_cell}
+use Rattle.rows.specs.Shown.{Filled, block_byte}
+use Rattle.rows.proofs.Laws.Paints.{shown}
+use Rattle.rows.proofs.Laws.Shown.{filled_none, filled-all}
+use Rattle.rows.proofs.shown.multicolor_words.Given as goal
+
+abbrev pub invariant-loop-high : goal.invariant-loop-high
+invariant-loop-high l = (l.high ≤ 16) × Filled l.words (block_byte l.paints) (16 * l.high)
+
+abbrev pub decreases-loop-high : goal.decreases-loop-high
+decreases-loop-high l = 16 - l.high

@@ -1,0 +1,13 @@
+-- `add_by_lines` meets its contract.
+use Rattle.std.proofs.Common.{◌≡◌, ◌+◌, ◌-◌, ◌%◌, ◌<◌, ◌≤◌, length, ◌∙◌, ⊎_elim, arith, rules}
+use Rattle.sprites.specs.Shape.{side}
+use Rattle.sprites.proofs.Laws.Columns.{side-small}
+use Rattle.chip.proofs.Laws.Bits.{one_shifted}
+use Rattle.sets.proofs.Laws.Added.{Added, added_none, added-outside, added-line}
+use Rattle.sets.proofs.set.add_by_lines.Given as goal
+
+abbrev pub invariant-loop-d : goal.invariant-loop-d
+invariant-loop-d l = (l.d ≤ l.height) × (l.l ≡ (l.y + 1 + l.d) % 256) × Added l.initial.sets l.sets l.y l.one l.d
+
+abbrev pub decreases-loop-d : goal.decreases-loop-d
+decreases-loop-d l = l.height - l.d

@@ -1,0 +1,17 @@
+-- `fill`: what the four puts leave is the snapshot.
+use Rattle.std.proofs.Common.{◌≡◌, ◌-◌, length, sym, arith, length-take-le, rules}
+use Rattle.snapshot.proofs.Laws.Filling.{filled}
+use Rattle.snapshot.proofs.writing.fill.Goals as goal
+
+pub returns : goal.returns
+returns c =
+    let eight : length c.args.chip.registers ≡ 8 = search rules in
+    let a = c.args in
+    let trailer : length a.out.now - 8 ≡ 16398 = omega (arith, c.requires.1) in
+    filled a.chip (eight) a.vram.now c.requires.0 a.out.now trailer
+    c.put.ensures.to_after
+    (rw c.encode-state.ensures at c.put-2.ensures.to_after)
+    (rw c.pointer_bytes-pointers.ensures at c.put-3.ensures.to_after)
+    c.checksum.ensures
+    (rw c.low_first-sum.ensures at c.put-4.ensures.to_after)
+    (omega (arith, c.put-4.auto.0, c.put-3.auto.0, c.put-2.auto.0, c.put.auto.0, c.requires.1))

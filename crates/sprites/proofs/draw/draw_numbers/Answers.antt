@@ -1,0 +1,20 @@
+-- `draw_numbers` meets its contract.
+use Rattle.std.proofs.Common.{◌≡◌, ◌-◌, ◌<◌, ◌≤◌, get_or, take, drop, arith}
+use Rattle.sprites.specs.Scanned.{no_sprite}
+use Rattle.sprites.proofs.Laws.Draw.{Numbered, numbered-none, numbered-one, numbered-long, one_lower, none-higher}
+use Rattle.sprites.proofs.draw.draw_numbers.Goals as goal
+
+pub loop-k-init : goal.loop-k-init
+loop-k-init c =
+    let held = c.requires.1 in
+    (omega arith, rw (none-higher c.args.scan.sprites c.args.scan.drawn (omega (arith, held.room, held.few))) (numbered-none c.requires.0))
+
+pub loop-k-preserved : goal.loop-k-preserved
+loop-k-preserved c =
+    let h = c.loop-k in
+    let sprites = c.args.scan.sprites in
+    let n = c.args.scan.drawn in (
+      omega arith,
+      rw (one_lower sprites n h.k no_sprite c.loop-k-test.true h.invariant.0 (omega (arith, c.requires.1.room, c.requires.1.few)))
+          (numbered-one (get_or sprites (h.k - 1) no_sprite) h.invariant.1 c.paint_sprite.ensures),
+    )
