@@ -17,9 +17,8 @@ loop-k-init c =
 
 pub loop-k-preserved : goal.loop-k-preserved
 loop-k-preserved c =
-    let h = c.loop-k in
     let held = c.requires.2 in
     let sprites = c.args.scan.sprites in
     let n = c.args.scan.drawn in
-    let painted = over-one h.invariant.1 (get_or sprites (h.k - 1) no_sprite) c.paint_found.ensures refl in
-    (omega arith, rw (one_lower sprites n h.k no_sprite c.loop-k-test.true h.invariant.0 (omega (arith, held.room, held.few))) (record { shown = painted.shown; found = refl }))
+    let painted = over-one c.loop-k.invariant.1 (get_or sprites (c.loop-k.k - 1) no_sprite) c.paint_found.ensures refl in
+    (omega arith, rw (one_lower sprites n c.loop-k.k no_sprite c.loop-k-test.true c.loop-k.invariant.0 (omega (arith, held.room, held.few))) (record { shown = painted.shown; found = refl }))

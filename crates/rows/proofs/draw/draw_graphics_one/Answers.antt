@@ -25,25 +25,22 @@ bounds-vram-names c =
 pub paint_patterns-requires : goal.paint_patterns-requires
 paint_patterns-requires c =
     let most : (n : ℕ) → n < 8 → register n c.args.r ≤ get_or masks n 0 = λ n h. at-most-mask c.args.r c.requires.0 n h in
-    let name : ℕ = let a = c.args in get_or a.vram.now (register 2 a.t1 * 1024 + a.row * 32 + c.loop-i.i) 0 in
+    let name : ℕ = let a = c.args in get_or a.vram.now (register 2 a.r * 1024 + a.row * 32 + c.loop-i.i) 0 in
     let bytes : Bytes c.args.vram.now = λ i. (c.shared_slice_known-1.given i).fits in
     let name-byte : name < 256 = bytes _ in
     (c.loop-i.invariant.1.long ∙ c.requires.5, omega arith, omega (arith, most 4 (lit< tt), name-byte), c.requires.3)
 
 pub loop-i-preserved : goal.loop-i-preserved
-loop-i-preserved c =
-    let at = c.loop-i in
-    (omega arith, tiled-more GraphicsI (omega arith) (omega arith) at.invariant.1 c.paint_patterns.ensures)
+loop-i-preserved c =     (omega arith, tiled-more GraphicsI (omega arith) (omega arith) c.loop-i.invariant.1 c.paint_patterns.ensures)
 
 pub returns : goal.returns
 returns c =
     let bytes : Bytes c.args.vram.now = λ i. (c.shared_slice_known-1.given i).fits in
-    let at = c.loop-i in
     let a = c.args in
     let vram = a.vram.now in
-    let e : at.i ≡ 32 = omega arith in
-    all_settled GraphicsI a.t1 vram a.row
-    (settled-cells GraphicsI a.t1 vram a.row
-    (λ i k j hi hk hj. shown c.requires.4 (cell-graphics-one a.t1 vram a.row k i hk) (bytes _) j hj)
+    let e : c.loop-i.i ≡ 32 = omega arith in
+    all_settled GraphicsI a.r vram a.row
+    (settled-cells GraphicsI a.r vram a.row
+    (λ i k j hi hk hj. shown c.requires.4 (cell-graphics-one a.r vram a.row k i hk) (bytes _) j hj)
     (settled-none c.requires.5)
-    (rw e at at.invariant.1))
+    (rw e at c.loop-i.invariant.1))

@@ -25,7 +25,7 @@ bounds-vram-names c =
 pub paint_coloured-requires : goal.paint_coloured-requires
 paint_coloured-requires c =
     let bytes : Bytes c.args.vram.now = λ i. (c.shared_slice_known-1.given i).fits in
-    let name-byte : let a = c.args in get_or a.vram.now (register 2 a.t1 * 1024 + a.row * 32 + c.loop-i.i) 0 < 256 = bytes _ in
+    let name-byte : let a = c.args in get_or a.vram.now (register 2 a.r * 1024 + a.row * 32 + c.loop-i.i) 0 < 256 = bytes _ in
     let most : (n : ℕ) → n < 8 → register n c.args.r ≤ get_or masks n 0 = λ n h. at-most-mask c.args.r c.requires.0 n h in
     (
       c.loop-i.invariant.1.long ∙ c.requires.5,
@@ -37,19 +37,16 @@ paint_coloured-requires c =
     )
 
 pub loop-i-preserved : goal.loop-i-preserved
-loop-i-preserved c =
-    let at = c.loop-i in
-    (omega arith, tiled-more GraphicsII (omega arith) (omega arith) at.invariant.1 c.paint_coloured.ensures)
+loop-i-preserved c =     (omega arith, tiled-more GraphicsII (omega arith) (omega arith) c.loop-i.invariant.1 c.paint_coloured.ensures)
 
 pub returns : goal.returns
 returns c =
     let bytes : Bytes c.args.vram.now = λ i. (c.shared_slice_known-1.given i).fits in
-    let at = c.loop-i in
     let a = c.args in
     let vram = a.vram.now in
-    let e : at.i ≡ 32 = omega arith in
-    all_settled GraphicsII a.t1 vram a.row
-    (settled-cells GraphicsII a.t1 vram a.row
-    (λ i k j hi hk hj. shown c.requires.4 (cell-graphics-two a.t1 vram a.row k i hk) (bytes _) j hj)
+    let e : c.loop-i.i ≡ 32 = omega arith in
+    all_settled GraphicsII a.r vram a.row
+    (settled-cells GraphicsII a.r vram a.row
+    (λ i k j hi hk hj. shown c.requires.4 (cell-graphics-two a.r vram a.row k i hk) (bytes _) j hj)
     (settled-none c.requires.5)
-    (rw e at at.invariant.1))
+    (rw e at c.loop-i.invariant.1))

@@ -29,20 +29,18 @@ bounds-vram-names c =
 pub paint_bytes-requires : goal.paint_bytes-requires
 paint_bytes-requires c =
     let bytes : Bytes c.args.vram.now = λ i. (c.shared_slice_known-1.given i).fits in
-    let name-byte : let a = c.args in get_or a.vram.now (register 2 a.t1 * 1024 + a.row * 40 + c.loop-i.i) 0 < 256 = bytes _ in
+    let name-byte : let a = c.args in get_or a.vram.now (register 2 a.r * 1024 + a.row * 40 + c.loop-i.i) 0 < 256 = bytes _ in
     let most : (n : ℕ) → n < 8 → register n c.args.r ≤ get_or masks n 0 = λ n h. at-most-mask c.args.r c.requires.0 n h in
     (c.loop-i.invariant.2.long ∙ c.paint_blocks.ensures.long ∙ c.requires.5, omega arith, omega (arith, most 4 (lit< tt), name-byte), c.requires.3.long)
 
 pub loop-i-preserved : goal.loop-i-preserved
-loop-i-preserved c =
-    let at = c.loop-i in
-    (omega arith, omega arith, tiled-more Text (omega arith) at.invariant.1 at.invariant.2 c.paint_bytes.ensures)
+loop-i-preserved c =     (omega arith, omega arith, tiled-more Text (omega arith) c.loop-i.invariant.1 c.loop-i.invariant.2 c.paint_bytes.ensures)
 
 pub returns : goal.returns
 returns c =
     let bytes : Bytes c.args.vram.now = λ i. (c.shared_slice_known-1.given i).fits in
     let a = c.args in
-    let r = a.t1 in
+    let r = a.r in
     let vram = a.vram.now in
     let e : c.loop-i.i ≡ 40 = omega arith in
     let left = settled-margin Text r vram a.row {at = 0} c.requires.4

@@ -8,12 +8,11 @@ use Rattle.sets.proofs.set.add_sprite.Goals as goal
 
 pub returns-then-first-height-le192-clause-by_index : goal.returns-then-first-height-le192-clause-by_index
 returns-then-first-height-le192-clause-by_index c =
-    let run = c.add_run in
     let a = c.args in
     let first : ℕ = c.wrapping_add_u8-first.result in
     let small : a.y < 256 = omega arith in
     let below : first ≡ (a.y + 1) % 256 = omega (arith, c.wrapping_add_u8-first.ensures) in
     let low : first + side a.r ≤ 192 = omega (arith, c.side-height.ensures) in
     let width : first + c.side-height.result - first ≡ side a.r = omega (arith, c.side-height.ensures) in
-    let added = added-run a.sets.now run.new.0 a.y (1 * 2 ^ a.n % 4294967296) first (side a.r) (first + c.side-height.result - first) small below low c.requires.0 width run.ensures.0 run.ensures.1 in
+    let added = added-run a.sets.now c.add_run.new.part a.y (1 * 2 ^ a.n % 4294967296) first (side a.r) (first + c.side-height.result - first) small below low c.requires.0 width c.add_run.ensures.part_len_unchanged c.add_run.ensures.by_index in
     rw (one_shifted 32 a.n c.requires.1) at added.line

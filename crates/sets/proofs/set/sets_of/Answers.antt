@@ -26,8 +26,7 @@ loop-n-preserved c =
     c.is_terminator.ensures ∙ ap (λ (a : ℕ). eqb (get_or c.args.vram.now a 0) 208) place in
     let left : c.loop-n.n < 32 = omega (arith, c.loop-n-test.true) in
     let more : eqb (y_of c.args.r c.args.vram.now c.loop-n.n) 208 ≡ false = sym (tested) ∙ c.if-is_terminator.false in
-    let added = c.add_sprite.ensures in
-    begun_more c.loop-n.invariant _ (left) more added.0 (rw c.attribute_address.ensures at added.1)
+    begun_more c.loop-n.invariant _ (left) more c.add_sprite.ensures.sets_len (rw c.attribute_address.ensures at c.add_sprite.ensures.by_index)
 
 pub returns : goal.returns
 returns c =
