@@ -22,3 +22,9 @@ loop-k-preserved c =
     let n = c.args.scan.drawn in
     let painted = over-one c.loop-k.invariant.1 (get_or sprites (c.loop-k.k - 1) no_sprite) c.paint_found.ensures refl in
     (omega arith, rw (one_lower sprites n c.loop-k.k no_sprite c.loop-k-test.true c.loop-k.invariant.0 (omega (arith, held.room, held.few))) (record { shown = painted.shown; found = refl }))
+
+pub returns-clause-value : goal.returns-clause-value
+returns-clause-value c =
+    let none : c.loop-k.k ≡ 0 = omega arith in
+    let all = rw none at c.loop-k.invariant.1 in
+    c.any_meet-met.ensures ∙ rows-coincide c.args.r c.args.scan c.wide_rows-rows.result c.requires.2 c.wide_rows-rows.ensures

@@ -3,7 +3,6 @@ use Prim.Native.Nat.{◌-◌, ◌≤◌}
 use native.Mathlib.Omega.{arith}
 use mathlib.Core.Path.{◌≡◌, sym, ap₂, ◌∙◌}
 use mathlib.Core.Bool.{false, ◌||◌}
-use mathlib.Core.Logic.{⊎_elim}
 use borrow.Author.Rules.{rules}
 use Rattle.chip.specs.Ranges.{any_below}
 use Rattle.chip.proofs.Laws.Ranges.{one_holds}
@@ -11,6 +10,7 @@ use Rattle.blit.specs.Wide.{places_meet}
 use Rattle.blit.proofs.Laws.Meet.{any_none, any-more}
 use Rattle.blit.proofs.Laws.Columns.{none-meets}
 use Rattle.blit.proofs.meet.any_meet.Goals as goal
+use Rattle.blit.proofs.meet.any_meet.Goals.{then-overlaps_lower+else-meets_lower, else-overlaps_lower}
 
 pub loop-k-init : goal.loop-k-init
 loop-k-init c = (search rules, any_none _)
@@ -25,8 +25,8 @@ loop-k-preserved c =
     let a = c.args in
     let k = c.loop-k.k in
     let here : any_below k (λ i. places_meet a.firsts.now a.rows.now i k) ≡ false
-    = ⊎_elim
-    (λ w. sym w.1.ensures ∙ w.2.left)
-    (λ w. none-meets a.firsts.now a.rows.now k (sym c.overlaps_lower.ensures ∙ w.left))
-    c.if-overlaps_lower.branch in
+    = elim c.if-overlaps_lower.branch [
+        then-overlaps_lower+else-meets_lower w ↦ sym w.meets_lower.ensures ∙ w.if-meets_lower.false
+      | else-overlaps_lower w ↦ none-meets a.firsts.now a.rows.now k (sym c.overlaps_lower.ensures ∙ w.if-overlaps_lower.false)
+    ] in
     (search rules, any-more k (λ j. any_below j (λ i. places_meet a.firsts.now a.rows.now i j)) ∙ ap₂ ◌||◌ c.loop-k.invariant.1 here)
