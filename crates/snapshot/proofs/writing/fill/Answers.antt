@@ -14,4 +14,4 @@ returns c =
     (rw c.pointer_bytes-pointers.ensures at c.put-3.ensures.to_after)
     c.checksum.ensures
     (rw c.low_first-sum.ensures at c.put-4.ensures.to_after)
-    (omega (arith, c.put-4.auto.0, c.put-3.auto.0, c.put-2.auto.0, c.put.auto.0, c.requires.1))
+    (omega (arith, c.put-4.auto.to, c.put-3.auto.to, c.put-2.auto.to, c.put.auto.to, c.requires.1))

@@ -1,0 +1,12 @@
+-- `marks_of` meets its contract.
+use Prim.Native.Nat.{◌-◌, ◌≤◌}
+use native.Mathlib.Omega.{arith}
+use borrow.Author.Rules.{rules}
+use Rattle.dirty.proofs.Laws.Marks.{MarkedBelow, marks-more}
+use Rattle.dirty.proofs.marks.marks_of.Given as goal
+
+abbrev pub invariant-loop-i : goal.invariant-loop-i
+invariant-loop-i l = (l.i ≤ 16) × MarkedBelow l.map l.from l.i l.marks
+
+abbrev pub decreases-loop-i : goal.decreases-loop-i
+decreases-loop-i l = 16 - l.i

@@ -1,0 +1,20 @@
+-- `ys_clear` meets its contract.
+use Prim.Native.Nat.{ℕ, ◌+◌, ◌-◌, ◌*◌, ◌/◌, ◌%◌, ◌≤◌, ◌<◌}
+use native.Mathlib.Omega.{arith}
+use mathlib.Core.Path.{◌≡◌, ◌∙◌}
+use mathlib.Core.Bool.{false}
+use borrow.Author.Count.{below_more}
+use borrow.Author.Tests.{eqb-true}
+use lib.Bits.{bit_or}
+use lib.Dec.{lit<}
+use lib.ListN.{get_or}
+use Rattle.chip.specs.Bits.{bit}
+use Rattle.dirty.proofs.Laws.Joined.{first-lacks, second-lacks, apart_from}
+use Rattle.dirty.proofs.Laws.Marks.{attribute-bit, y-bits}
+use Rattle.dirty.proofs.marks.ys_clear.Given as goal
+
+abbrev pub invariant-loop-i : goal.invariant-loop-i
+invariant-loop-i l = (l.i ≤ 16) × ((k m : ℕ) → m < l.i → bit k l.joined ≡ false → bit k (get_or l.map (l.from + m) 0) ≡ false)
+
+abbrev pub decreases-loop-i : goal.decreases-loop-i
+decreases-loop-i l = 16 - l.i

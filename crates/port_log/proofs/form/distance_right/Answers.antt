@@ -1,0 +1,16 @@
+-- `distance_right` meets its contract.
+use native.Mathlib.Omega.{arith}
+use Rattle.port_log.specs.Tests.{distance_right}
+use Rattle.port_log.proofs.Laws.Form.{sized}
+use borrow.Author.Rules.{rules}
+use Rattle.port_log.proofs.form.distance_right.Goals as goal
+
+pub overflow_sub-trailer : goal.overflow_sub-trailer
+overflow_sub-trailer c = let s = sized _ c.requires in omega arith
+
+pub low_first_at-distance-requires : goal.low_first_at-distance-requires
+low_first_at-distance-requires c = let s = sized _ c.requires in omega arith
+
+pub returns : goal.returns
+unfolding distance_right
+returns c = simp c.low_first_at-distance.ensures

@@ -1,0 +1,8 @@
+-- `is_allowed` meets its contract.
+use Rattle.port_log.specs.Records.{allowed}
+use borrow.Author.Rules.{rules}
+use Rattle.port_log.proofs.records.is_allowed.Goals as goal
+
+pub returns : goal.returns
+unfolding allowed
+returns c = simp (c.value_allowed.ensures, c.operation_of-operation.ensures)

@@ -1,0 +1,24 @@
+-- `write_stretch`: each data write leaves a run that ends as before.
+use Prim.Native.Nat.{◌+◌, ◌*◌, ◌/◌, ◌-◌, ◌≤◌, ◌<◌}
+use native.Mathlib.Omega.{arith}
+use mathlib.Core.Path.{◌≡◌, refl, ◌∙◌}
+use lib.ListN.{length, get_or}
+use borrow.Author.Rules.{rules}
+use Rattle.port_log.specs.Rest.{EndsAlike}
+use Rattle.port_log.proofs.Laws.Steps.{data-write-goes-on}
+use Rattle.port_log.proofs.stretch.write_stretch.Goals as goal
+
+pub returns-then-next-count-clause-ends_alike : goal.returns-then-next-count-clause-ends_alike
+returns-then-next-count-clause-ends_alike c =
+    let a = c.args in
+    λ line. c.loop-next.invariant.5 line ∙ data-write-goes-on a.records.now c.loop-next.next c.loop-next.invariant.1 c.loop-next.invariant.2 c.loop-next.chip c.loop-next.vram c.loop-next.map c.record_at-record.ensures c.data_write-answer.ensures.value c.data_write-answer.ensures.vram_after c.data_write-answer.ensures.map_after line
+
+pub returns-then-records-next-ne0-clause-ends_alike : goal.returns-then-records-next-ne0-clause-ends_alike
+returns-then-records-next-ne0-clause-ends_alike c =
+    let a = c.args in
+    λ line. c.loop-next.invariant.5 line ∙ data-write-goes-on a.records.now c.loop-next.next c.loop-next.invariant.1 c.loop-next.invariant.2 c.loop-next.chip c.loop-next.vram c.loop-next.map c.record_at-record.ensures c.data_write-answer.ensures.value c.data_write-answer.ensures.vram_after c.data_write-answer.ensures.map_after line
+
+pub loop-next-preserved : goal.loop-next-preserved
+loop-next-preserved c =
+    let a = c.args in
+    (omega arith, omega arith, c.if-records-next-ne0.false, search rules, search rules, λ line. c.loop-next.invariant.5 line ∙ data-write-goes-on a.records.now c.loop-next.next c.loop-next.invariant.1 c.loop-next.invariant.2 c.loop-next.chip c.loop-next.vram c.loop-next.map c.record_at-record.ensures c.data_write-answer.ensures.value c.data_write-answer.ensures.vram_after c.data_write-answer.ensures.map_after line)
