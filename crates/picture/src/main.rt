@@ -1,16 +1,16 @@
 // Writes the snapshot on standard input as a binary PPM, piece by piece.
 #![tactic(auto)]
 
-fn main() {
+fn main(rt: HostRuntime) {
     let mut file = [0u8; 16407];
-    let count = input::read(&mut file);
+    let count = input::read(&mut rt.stdin(), &mut file);
     let mut vram = [0u8; 16384];
     let mut walk = ppm::start(&file[..count], &mut vram);
     let mut out = [0u8; 768];
     loop {
         let piece = ppm::step(walk, &vram, &mut out);
         let written = piece.written;
-        io::write_all(1, &out[..written]);
+        let _ = rt.write_all(&out[..written]);
         if piece.last {
             return;
         }

@@ -8,18 +8,29 @@ mod output;
 
 use arguments::rightly_called;
 use output::pixel;
+use std::env::{Env, FillError};
+
+// How many words the program is called with, its own name among them.
+fn arg_count<E: Env>(env: &E) -> usize {
+    for i in 0..usize::MAX {
+        if let Err(FillError::NotPresent) = env.arg(i, &mut []) {
+            return i;
+        }
+    }
+    usize::MAX
+}
 
 // Where the arguments are wrong nothing is read, so that the usage shows at once. (How long one can be: docs/DECISIONS.md.)
-fn main() {
-    let argc = os::arg_count();
+fn main(rt: HostRuntime) {
+    let argc = arg_count(&rt);
     let mut first = [0u8; 131072];
-    let first_count = os::arg(1, &mut first);
+    let first_count = rt.arg(1, &mut first).unwrap_or(0);
     let mut second = [0u8; 131072];
-    let second_count = os::arg(2, &mut second);
+    let second_count = rt.arg(2, &mut second).unwrap_or(0);
     let mut file = [0u8; 16407];
     let mut count = 0;
     if rightly_called(argc, &first[..first_count], &second[..second_count]) {
-        count = input::read(&mut file);
+        count = input::read(&mut rt.stdin(), &mut file);
     }
     let mut out = [0u8; 128];
     let written = pixel(
@@ -29,5 +40,5 @@ fn main() {
         &file[..count],
         &mut out,
     );
-    io::write_all(1, &out[..written]);
+    let _ = rt.write_all(&out[..written]);
 }

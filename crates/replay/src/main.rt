@@ -6,14 +6,14 @@ mod streams;
 
 use streams::replay;
 
-fn main() {
+fn main(rt: HostRuntime) {
     let mut file = [0u8; 56411];
-    let count = input::read_with_log(&mut file);
+    let count = input::read_with_log(&mut rt.stdin(), &mut file);
     let mut output = [0u8; 16406];
     let mut errors = [0u8; 64];
     let written = replay(&file[..count], &mut output, &mut errors);
     let n = written.output;
-    io::write_all(1, &output[..n]);
+    let _ = rt.write_all(&output[..n]);
     let m = written.errors;
-    io::write_all(2, &errors[..m]);
+    let _ = rt.stderr().write_all(&errors[..m]);
 }

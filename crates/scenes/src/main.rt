@@ -7,8 +7,8 @@ mod put;
 mod sprite;
 mod worked;
 
-fn main() {
-    worked::show_all();
-    modes::show_all();
-    sprite::show_all();
+fn main(rt: HostRuntime) {
+    worked::show_all(rt.stdout());
+    modes::show_all(rt.stdout());
+    sprite::show_all(rt.stdout());
 }

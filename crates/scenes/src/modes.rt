@@ -1,6 +1,7 @@
 // The four modes over VRAM that differs from place to place, blank lines, and external video.
 use crate::print::show;
 use crate::put::{mix, put};
+use std::io::Stdout;
 
 type Registers = [u8; 8];
 
@@ -25,44 +26,52 @@ fn text() -> Registers {
     mode(0x00, 0x50, 0xA0, 0x02, 0xF7)
 }
 
-fn graphics(vram: &[u8]) {
-    show(b"Graphics I", graphics_i(), 0, vram, 0);
-    show(b"Graphics I", graphics_i(), 0, vram, 100);
-    show(b"Graphics II", graphics_ii(), 0, vram, 63);
-    show(b"Graphics II", graphics_ii(), 0, vram, 64);
-    show(b"Graphics II", graphics_ii(), 0, vram, 191);
+fn graphics(out: Stdout, vram: &[u8]) {
+    show(out, b"Graphics I", graphics_i(), 0, vram, 0);
+    show(out, b"Graphics I", graphics_i(), 0, vram, 100);
+    show(out, b"Graphics II", graphics_ii(), 0, vram, 63);
+    show(out, b"Graphics II", graphics_ii(), 0, vram, 64);
+    show(out, b"Graphics II", graphics_ii(), 0, vram, 191);
 }
 
-fn others(vram: &[u8]) {
-    show(b"Multicolor", multicolor(), 0, vram, 3);
-    show(b"Multicolor", multicolor(), 0, vram, 4);
-    show(b"Multicolor", multicolor(), 0, vram, 191);
-    show(b"Text", text(), 0, vram, 0);
-    show(b"Text", text(), 0, vram, 191);
+fn others(out: Stdout, vram: &[u8]) {
+    show(out, b"Multicolor", multicolor(), 0, vram, 3);
+    show(out, b"Multicolor", multicolor(), 0, vram, 4);
+    show(out, b"Multicolor", multicolor(), 0, vram, 191);
+    show(out, b"Text", text(), 0, vram, 0);
+    show(out, b"Text", text(), 0, vram, 191);
 }
 
-fn without_sprites(vram: &mut [u8]) {
+fn without_sprites(out: Stdout, vram: &mut [u8]) {
     mix(vram);
     put(vram, 0x3000, &[0xD0]);
-    graphics(vram);
-    others(vram);
+    graphics(out, vram);
+    others(out, vram);
 }
 
-fn show_without_sprites() {
+fn show_without_sprites(out: Stdout) {
     let mut vram = [0u8; 16384];
-    without_sprites(&mut vram);
+    without_sprites(out, &mut vram);
 }
 
-fn each_mode(vram: &[u8]) {
-    show(b"Graphics I, five sprites", graphics_i(), 0, vram, 100);
-    show(b"Graphics II, five sprites", graphics_ii(), 0, vram, 100);
-    show(b"Multicolor, five sprites", multicolor(), 0, vram, 100);
-    show(b"Text, five sprites in VRAM", text(), 0, vram, 100);
+fn each_mode(out: Stdout, vram: &[u8]) {
+    show(out, b"Graphics I, five sprites", graphics_i(), 0, vram, 100);
+    show(
+        out,
+        b"Graphics II, five sprites",
+        graphics_ii(),
+        0,
+        vram,
+        100,
+    );
+    show(out, b"Multicolor, five sprites", multicolor(), 0, vram, 100);
+    show(out, b"Text, five sprites in VRAM", text(), 0, vram, 100);
 }
 
 // Display off, and each set of two or three mode bits.
-fn blank(vram: &[u8]) {
+fn blank(out: Stdout, vram: &[u8]) {
     show(
+        out,
         b"display off",
         mode(0x00, 0x80, 0xA0, 0x02, 0xF7),
         0,
@@ -70,6 +79,7 @@ fn blank(vram: &[u8]) {
         100,
     );
     show(
+        out,
         b"display off in Text",
         mode(0x00, 0x10, 0xA0, 0x02, 0xF7),
         0x45,
@@ -77,6 +87,7 @@ fn blank(vram: &[u8]) {
         100,
     );
     show(
+        out,
         b"M1 and M2",
         mode(0x00, 0x58, 0xA0, 0x02, 0xF7),
         0,
@@ -84,6 +95,7 @@ fn blank(vram: &[u8]) {
         100,
     );
     show(
+        out,
         b"M1 and M3",
         mode(0x02, 0x50, 0xA0, 0x02, 0xF7),
         0,
@@ -91,6 +103,7 @@ fn blank(vram: &[u8]) {
         100,
     );
     show(
+        out,
         b"M2 and M3",
         mode(0x02, 0x48, 0xA0, 0x02, 0xF7),
         0,
@@ -98,6 +111,7 @@ fn blank(vram: &[u8]) {
         100,
     );
     show(
+        out,
         b"M1, M2 and M3",
         mode(0x02, 0x58, 0xA0, 0x02, 0xF0),
         0,
@@ -107,7 +121,7 @@ fn blank(vram: &[u8]) {
 }
 
 // Five sprites on line 100, of which two meet.
-fn with_sprites(vram: &mut [u8]) {
+fn with_sprites(out: Stdout, vram: &mut [u8]) {
     mix(vram);
     put(
         vram,
@@ -115,18 +129,19 @@ fn with_sprites(vram: &mut [u8]) {
         &[99, 20, 0, 0x0A, 95, 60, 1, 0x03, 98, 62, 2, 0x0C],
     );
     put(vram, 0x300C, &[94, 200, 3, 0x06, 97, 120, 4, 0x09, 0xD0]);
-    each_mode(vram);
-    blank(vram);
+    each_mode(out, vram);
+    blank(out, vram);
 }
 
-fn show_with_sprites() {
+fn show_with_sprites(out: Stdout) {
     let mut vram = [0u8; 16384];
-    with_sprites(&mut vram);
+    with_sprites(out, &mut vram);
 }
 
 // All planes 0.
-fn external_video(vram: &[u8]) {
+fn external_video(out: Stdout, vram: &[u8]) {
     show(
+        out,
         b"all planes 0",
         mode(0x00, 0x40, 0xA0, 0x02, 0x00),
         0,
@@ -134,6 +149,7 @@ fn external_video(vram: &[u8]) {
         100,
     );
     show(
+        out,
         b"all planes 0, external video",
         mode(0x01, 0x40, 0xA0, 0x02, 0x00),
         0,
@@ -141,6 +157,7 @@ fn external_video(vram: &[u8]) {
         100,
     );
     show(
+        out,
         b"display off, external video",
         mode(0x01, 0x00, 0xA0, 0x02, 0xF0),
         0,
@@ -148,6 +165,7 @@ fn external_video(vram: &[u8]) {
         100,
     );
     show(
+        out,
         b"backdrop 9, external video",
         mode(0x01, 0x40, 0xA0, 0x02, 0x09),
         0,
@@ -157,8 +175,9 @@ fn external_video(vram: &[u8]) {
 }
 
 // A pattern with a colour 0.
-fn colour_0(vram: &[u8]) {
+fn colour_0(out: Stdout, vram: &[u8]) {
     show(
+        out,
         b"colour 0 of a pattern",
         mode(0x00, 0x40, 0xA0, 0x02, 0x00),
         0,
@@ -166,6 +185,7 @@ fn colour_0(vram: &[u8]) {
         0,
     );
     show(
+        out,
         b"colour 0 of a pattern, external video",
         mode(0x01, 0x40, 0xA0, 0x02, 0x00),
         0,
@@ -173,6 +193,7 @@ fn colour_0(vram: &[u8]) {
         0,
     );
     show(
+        out,
         b"colour 0 of a pattern, backdrop 3",
         mode(0x01, 0x40, 0xA0, 0x02, 0x53),
         0,
@@ -180,6 +201,7 @@ fn colour_0(vram: &[u8]) {
         0,
     );
     show(
+        out,
         b"Text of colours 4 and 0",
         mode(0x01, 0x50, 0xA0, 0x02, 0x40),
         0,
@@ -188,22 +210,22 @@ fn colour_0(vram: &[u8]) {
     );
 }
 
-fn no_colour(vram: &mut [u8]) {
+fn no_colour(out: Stdout, vram: &mut [u8]) {
     put(vram, 0x3000, &[0xD0]);
     put(vram, 0x0405, &[1]);
     put(vram, 0x1008, &[0xF0]);
     put(vram, 0x2800, &[0x60]);
-    external_video(vram);
-    colour_0(vram);
+    external_video(out, vram);
+    colour_0(out, vram);
 }
 
-fn show_no_colour() {
+fn show_no_colour(out: Stdout) {
     let mut vram = [0u8; 16384];
-    no_colour(&mut vram);
+    no_colour(out, &mut vram);
 }
 
-pub fn show_all() {
-    show_without_sprites();
-    show_with_sprites();
-    show_no_colour();
+pub fn show_all(out: Stdout) {
+    show_without_sprites(out);
+    show_with_sprites(out);
+    show_no_colour(out);
 }

@@ -4,7 +4,7 @@ ghost use Rattle.scanline.specs.Colours.{draw_colours, draw_colours_line};
 ghost use Rattle.scenes.specs.Shown.{state_of};
 
 use chip::{Chip, Waiting};
-use libc::STDOUT_FILENO;
+use std::io::Stdout;
 
 // A state with these registers and this status.
 fn chip_of(r: [u8; 8], status: u8) -> Chip
@@ -26,15 +26,12 @@ fn byte_at(s: &[u8], i: usize) -> u8 {
     if i < s.len() { s[i] } else { 255 }
 }
 
-fn print_run(count: usize, colour: u8) {
-    io::write_all(STDOUT_FILENO, &[b' ']);
-    io::print_decimal(STDOUT_FILENO, count as u64);
-    io::write_all(STDOUT_FILENO, &[b'*']);
-    io::print_decimal(STDOUT_FILENO, colour as u64);
+fn print_run(out: Stdout, count: usize, colour: u8) {
+    let _ = print!(out; " {count}*{colour}");
 }
 
 // The runs of equal neighbours: a space, the count, a star and the colour of each.
-fn print_runs(line: &[u8]) {
+fn print_runs(out: Stdout, line: &[u8]) {
     let mut count = 0;
     let mut x = 0;
     while x < line.len() {
@@ -42,7 +39,7 @@ fn print_runs(line: &[u8]) {
         x += 1;
         let colour = byte_at(line, x - 1);
         if byte_at(line, x) != colour {
-            print_run(count, colour);
+            print_run(out, count, colour);
             count = 0;
         }
     }
@@ -57,20 +54,16 @@ fn draw(r: [u8; 8], status: u8, vram: &[u8], line: &mut [u8], number: u32) -> u8
     answer.chip.status
 }
 
-fn print_line(label: &[u8], number: u32, line: &[u8], status: u8) {
-    io::write_all(STDOUT_FILENO, label);
-    io::write_all(STDOUT_FILENO, b", line ");
-    io::print_decimal(STDOUT_FILENO, number as u64);
-    io::write_all(STDOUT_FILENO, b":");
-    print_runs(line);
-    io::write_all(STDOUT_FILENO, b", status ");
-    io::print_hex(STDOUT_FILENO, status as u64, 2);
-    io::write_all(STDOUT_FILENO, b"\n");
+fn print_line(out: Stdout, label: &[u8], number: u32, line: &[u8], status: u8) {
+    let _ = out.write_all(label);
+    let _ = print!(out; ", line {number}:");
+    print_runs(out, line);
+    let _ = println!(out; ", status {status:02x}");
 }
 
 // Draws a line from a status, and prints label, number, runs and the status after.
-pub fn show(label: &[u8], r: [u8; 8], status: u8, vram: &[u8], number: u32) {
+pub fn show(out: Stdout, label: &[u8], r: [u8; 8], status: u8, vram: &[u8], number: u32) {
     let mut line = [0u8; 256];
     let after = draw(r, status, vram, &mut line, number);
-    print_line(label, number, &line, after);
+    print_line(out, label, number, &line, after);
 }

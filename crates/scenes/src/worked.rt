@@ -1,6 +1,7 @@
 // The manual's (M) and the guide's (G) worked set-ups.
 use crate::print::show;
 use crate::put::{count_up, put, repeat};
+use std::io::Stdout;
 
 type Registers = [u8; 8];
 
@@ -34,33 +35,33 @@ fn g_8_2() -> Registers {
 }
 
 // Zero VRAM: thirty-two sprites at Y = 0, so line 1 has a fifth.
-fn zero_vram(vram: &[u8]) {
-    show(b"G 6-1, zero VRAM", g_6_1(), 0, vram, 1);
-    show(b"G 6-2, zero VRAM", g_6_2(), 0, vram, 1);
-    show(b"G 6-3, zero VRAM", g_6_3(), 0, vram, 1);
-    show(b"G 6-4, zero VRAM", g_6_4(), 0, vram, 1);
-    show(b"M 3.3, zero VRAM", m_3_3(), 0, vram, 1);
-    show(b"G E, zero VRAM", g_e(), 0, vram, 1);
-    show(b"G 8-2, zero VRAM", g_8_2(), 0, vram, 1);
-    show(b"G 6-1, zero VRAM", g_6_1(), 0, vram, 0);
-    show(b"G 6-2, zero VRAM", g_6_2(), 0, vram, 191);
+fn zero_vram(out: Stdout, vram: &[u8]) {
+    show(out, b"G 6-1, zero VRAM", g_6_1(), 0, vram, 1);
+    show(out, b"G 6-2, zero VRAM", g_6_2(), 0, vram, 1);
+    show(out, b"G 6-3, zero VRAM", g_6_3(), 0, vram, 1);
+    show(out, b"G 6-4, zero VRAM", g_6_4(), 0, vram, 1);
+    show(out, b"M 3.3, zero VRAM", m_3_3(), 0, vram, 1);
+    show(out, b"G E, zero VRAM", g_e(), 0, vram, 1);
+    show(out, b"G 8-2, zero VRAM", g_8_2(), 0, vram, 1);
+    show(out, b"G 6-1, zero VRAM", g_6_1(), 0, vram, 0);
+    show(out, b"G 6-2, zero VRAM", g_6_2(), 0, vram, 191);
 }
 
-fn show_zero_vram() {
+fn show_zero_vram(out: Stdout) {
     let vram = [0u8; 16384];
-    zero_vram(&vram);
+    zero_vram(out, &vram);
 }
 
 // The terminator at the attribute base.
-fn no_sprites(vram: &mut [u8]) {
+fn no_sprites(out: Stdout, vram: &mut [u8]) {
     put(vram, 0x1000, &[0xD0]);
-    show(b"G 6-1, no sprites", g_6_1(), 0, vram, 1);
-    show(b"G 6-3, no sprites", g_6_3(), 0, vram, 1);
+    show(out, b"G 6-1, no sprites", g_6_1(), 0, vram, 1);
+    show(out, b"G 6-3, no sprites", g_6_3(), 0, vram, 1);
 }
 
-fn show_no_sprites() {
+fn show_no_sprites(out: Stdout) {
     let mut vram = [0u8; 16384];
-    no_sprites(&mut vram);
+    no_sprites(out, &mut vram);
 }
 
 // Names, patterns, colour bytes and one sprite, each from its table's base on.
@@ -87,49 +88,56 @@ fn put_all(
     put_sprite(vram, attributes, sprites);
 }
 
-fn bases_in(vram: &mut [u8], label: &[u8], r: [u8; 8], bases: [u16; 5]) {
+fn bases_in(out: Stdout, vram: &mut [u8], label: &[u8], r: [u8; 8], bases: [u16; 5]) {
     put_all(vram, bases[0], bases[1], bases[2], bases[3], bases[4]);
-    show(label, r, 0, vram, 0);
+    show(out, label, r, 0, vram, 0);
 }
 
 // Names, colours, patterns, attributes, sprite patterns.
-fn bases(label: &[u8], r: [u8; 8], bases: [u16; 5]) {
+fn bases(out: Stdout, label: &[u8], r: [u8; 8], bases: [u16; 5]) {
     let mut vram = [0u8; 16384];
-    bases_in(&mut vram, label, r, bases);
+    bases_in(out, &mut vram, label, r, bases);
 }
 
-fn show_bases() {
+fn show_bases(out: Stdout) {
     bases(
+        out,
         b"G 6-1, bytes at the bases",
         g_6_1(),
         [0x1400, 0x2000, 0x0800, 0x1000, 0x0000],
     );
     bases(
+        out,
         b"G 6-2, bytes at the bases",
         g_6_2(),
         [0x3800, 0x2000, 0x0000, 0x3B00, 0x1800],
     );
     bases(
+        out,
         b"G 8-2, bytes at the bases",
         g_8_2(),
         [0x3800, 0x2000, 0x0000, 0x3B00, 0x1800],
     );
     bases(
+        out,
         b"G 6-3, bytes at the bases",
         g_6_3(),
         [0x1400, 0x3000, 0x0800, 0x1000, 0x0000],
     );
     bases(
+        out,
         b"G 6-4, bytes at the bases",
         g_6_4(),
         [0x0800, 0x3000, 0x0000, 0x1000, 0x3800],
     );
     bases(
+        out,
         b"M 3.3, bytes at the bases",
         m_3_3(),
         [0x0400, 0x0200, 0x0800, 0x0100, 0x0000],
     );
     bases(
+        out,
         b"G E, bytes at the bases",
         g_e(),
         [0x0400, 0x2000, 0x0800, 0x0300, 0x0000],
@@ -137,16 +145,16 @@ fn show_bases() {
 }
 
 // Lines 0 to 7.
-fn show_eight(label: &[u8], r: [u8; 8], vram: &[u8]) {
+fn show_eight(out: Stdout, label: &[u8], r: [u8; 8], vram: &[u8]) {
     let mut number = 0;
     while number < 8 {
-        show(label, r, 0, vram, number);
+        show(out, label, r, 0, vram, number);
         number += 1;
     }
 }
 
 // M Fig. 2-13 in cell 0 of G 6-2; the other cells are blank.
-fn figure_2_13(vram: &mut [u8]) {
+fn figure_2_13(out: Stdout, vram: &mut [u8]) {
     repeat(vram, 0x3801, 767, 1);
     put(vram, 0x3B00, &[0xD0]);
     put(
@@ -159,12 +167,12 @@ fn figure_2_13(vram: &mut [u8]) {
         0x2000,
         &[0x1B, 0x7B, 0xCB, 0xEB, 0x8B, 0x5B, 0x6B, 0xDB],
     );
-    show_eight(b"M Fig. 2-13", g_6_2(), vram);
+    show_eight(out, b"M Fig. 2-13", g_6_2(), vram);
 }
 
-fn show_figure_2_13() {
+fn show_figure_2_13(out: Stdout) {
     let mut vram = [0u8; 16384];
-    figure_2_13(&mut vram);
+    figure_2_13(out, &mut vram);
 }
 
 // M Fig. 2-11 in cell 0 of Text, in colours 7 and 1.
@@ -172,43 +180,43 @@ fn text_7_on_1() -> Registers {
     [0x00, 0xD0, 0x02, 0x00, 0x00, 0x20, 0x00, 0x71]
 }
 
-fn figure_2_11(vram: &mut [u8]) {
+fn figure_2_11(out: Stdout, vram: &mut [u8]) {
     put(vram, 0x0800, &[1]);
     put(
         vram,
         0x0008,
         &[0x7C, 0x04, 0x04, 0x3C, 0x04, 0x04, 0x7C, 0x00],
     );
-    show_eight(b"M Fig. 2-11", text_7_on_1(), vram);
+    show_eight(out, b"M Fig. 2-11", text_7_on_1(), vram);
 }
 
-fn show_figure_2_11() {
+fn show_figure_2_11(out: Stdout) {
     let mut vram = [0u8; 16384];
-    figure_2_11(&mut vram);
+    figure_2_11(out, &mut vram);
 }
 
 // G's bitmap: names that count up, and one pixel of colour 4 on 15.
-fn bitmap_in(vram: &mut [u8], label: &[u8], at: u16, byte: u8, number: u32) {
+fn bitmap_in(out: Stdout, vram: &mut [u8], label: &[u8], at: u16, byte: u8, number: u32) {
     count_up(vram, 0x3800, 768);
     repeat(vram, 0x2000, 0x1800, 0x4F);
     put(vram, 0x3B00, &[0xD0]);
     put(vram, at, &[byte]);
-    show(label, g_6_2(), 0, vram, number);
+    show(out, label, g_6_2(), 0, vram, number);
 }
 
-fn bitmap(label: &[u8], at: u16, byte: u8, number: u32) {
+fn bitmap(out: Stdout, label: &[u8], at: u16, byte: u8, number: u32) {
     let mut vram = [0u8; 16384];
-    bitmap_in(&mut vram, label, at, byte, number);
+    bitmap_in(out, &mut vram, label, at, byte, number);
 }
 
-fn show_bitmaps() {
-    bitmap(b"bitmap, pixel (0,0)", 0x0000, 0x80, 0);
-    bitmap(b"bitmap, pixel (255,0)", 0x00F8, 0x01, 0);
-    bitmap(b"bitmap, pixel (0,64)", 0x0800, 0x80, 64);
-    bitmap(b"bitmap, pixel (0,64)", 0x0800, 0x80, 0);
-    bitmap(b"bitmap, pixel (100,100)", 0x0C64, 0x08, 100);
-    bitmap(b"bitmap, pixel (0,191)", 0x1707, 0x80, 191);
-    bitmap(b"bitmap, pixel (255,191)", 0x17FF, 0x01, 191);
+fn show_bitmaps(out: Stdout) {
+    bitmap(out, b"bitmap, pixel (0,0)", 0x0000, 0x80, 0);
+    bitmap(out, b"bitmap, pixel (255,0)", 0x00F8, 0x01, 0);
+    bitmap(out, b"bitmap, pixel (0,64)", 0x0800, 0x80, 64);
+    bitmap(out, b"bitmap, pixel (0,64)", 0x0800, 0x80, 0);
+    bitmap(out, b"bitmap, pixel (100,100)", 0x0C64, 0x08, 100);
+    bitmap(out, b"bitmap, pixel (0,191)", 0x1707, 0x80, 191);
+    bitmap(out, b"bitmap, pixel (255,191)", 0x17FF, 0x01, 191);
 }
 
 // G's Multicolor names, and the bytes that they lead to.
@@ -227,23 +235,23 @@ fn multicolor_bytes(vram: &mut [u8]) {
     put(vram, 0x0FFE, &[0x9A, 0xBC]);
 }
 
-fn multicolor_lines(vram: &[u8]) {
-    show_eight(b"Multicolor", g_6_3(), vram);
-    show(b"Multicolor", g_6_3(), 0, vram, 8);
-    show(b"Multicolor", g_6_3(), 0, vram, 12);
-    show(b"Multicolor", g_6_3(), 0, vram, 187);
-    show(b"Multicolor", g_6_3(), 0, vram, 188);
+fn multicolor_lines(out: Stdout, vram: &[u8]) {
+    show_eight(out, b"Multicolor", g_6_3(), vram);
+    show(out, b"Multicolor", g_6_3(), 0, vram, 8);
+    show(out, b"Multicolor", g_6_3(), 0, vram, 12);
+    show(out, b"Multicolor", g_6_3(), 0, vram, 187);
+    show(out, b"Multicolor", g_6_3(), 0, vram, 188);
 }
 
-fn multicolor(vram: &mut [u8]) {
+fn multicolor(out: Stdout, vram: &mut [u8]) {
     multicolor_names(vram);
     multicolor_bytes(vram);
-    multicolor_lines(vram);
+    multicolor_lines(out, vram);
 }
 
-fn show_multicolor() {
+fn show_multicolor(out: Stdout) {
     let mut vram = [0u8; 16384];
-    multicolor(&mut vram);
+    multicolor(out, &mut vram);
 }
 
 // G Table 10-1: the spaceman, of two sprites over each other.
@@ -297,16 +305,16 @@ fn overlay(vram: &mut [u8]) {
     );
 }
 
-fn spaceman_lines(vram: &[u8]) {
-    show(b"G Table 10-1", table_10_1(), 0, vram, 0);
-    show(b"G Table 10-1", table_10_1(), 0, vram, 1);
-    show(b"G Table 10-1", table_10_1(), 0, vram, 9);
-    show(b"G Table 10-1", table_10_1(), 0, vram, 16);
-    show(b"G Table 10-1", table_10_1(), 0, vram, 17);
-    show(b"G Table 10-1", table_10_1(), 0, vram, 191);
+fn spaceman_lines(out: Stdout, vram: &[u8]) {
+    show(out, b"G Table 10-1", table_10_1(), 0, vram, 0);
+    show(out, b"G Table 10-1", table_10_1(), 0, vram, 1);
+    show(out, b"G Table 10-1", table_10_1(), 0, vram, 9);
+    show(out, b"G Table 10-1", table_10_1(), 0, vram, 16);
+    show(out, b"G Table 10-1", table_10_1(), 0, vram, 17);
+    show(out, b"G Table 10-1", table_10_1(), 0, vram, 191);
 }
 
-fn spaceman(vram: &mut [u8]) {
+fn spaceman(out: Stdout, vram: &mut [u8]) {
     man(vram);
     overlay(vram);
     put(
@@ -314,21 +322,21 @@ fn spaceman(vram: &mut [u8]) {
         0x1000,
         &[0, 0, 0x00, 0x0F, 0, 0, 0x2C, 0x01, 0, 0, 0x0C, 0x04, 0xD0],
     );
-    spaceman_lines(vram);
+    spaceman_lines(out, vram);
 }
 
-fn show_spaceman() {
+fn show_spaceman(out: Stdout) {
     let mut vram = [0u8; 16384];
-    spaceman(&mut vram);
+    spaceman(out, &mut vram);
 }
 
-pub fn show_all() {
-    show_zero_vram();
-    show_no_sprites();
-    show_bases();
-    show_figure_2_13();
-    show_figure_2_11();
-    show_bitmaps();
-    show_multicolor();
-    show_spaceman();
+pub fn show_all(out: Stdout) {
+    show_zero_vram(out);
+    show_no_sprites(out);
+    show_bases(out);
+    show_figure_2_13(out);
+    show_figure_2_11(out);
+    show_bitmaps(out);
+    show_multicolor(out);
+    show_spaceman(out);
 }
