@@ -15,6 +15,6 @@ returns-then-before-eq255 c = λ k h. let set = ap (bit k) c.if-before-eq255.tru
 pub loop-k-preserved : goal.loop-k-preserved
 loop-k-preserved c =
     elim c.if-line_marked.branch [
-        then-line_marked w ↦ rw (w.byte-is ∙ w.set_bit.ensures) (bits-set c.loop-k.invariant c.loop-k-test.true c.line_marked.result c.line_marked.ensures w.if-line_marked.true)
+        then-line_marked w ↦ rw (w.byte-is ∙ w.set_bit-byte.ensures) (bits-set c.loop-k.invariant c.loop-k-test.true c.line_marked.result c.line_marked.ensures w.if-line_marked.true)
       | else-line_marked w ↦ rw w.byte-is (bits-same c.loop-k.invariant c.loop-k-test.true c.line_marked.result c.line_marked.ensures w.if-line_marked.false)
     ]
