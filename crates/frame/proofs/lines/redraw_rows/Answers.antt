@@ -43,3 +43,13 @@ loop-row-preserved c =
     let count = c.redraw_row-count.ensures.value ∙ step_count a.rows a.r a.vram.now c.loop-row.row in
     let next = redrawn-row line note (due_bit a.rows) (wide) more c.requires.3 c.loop-row.invariant.3 ew ev lines notes count in
     (omega arith, redrawn-long 192 line note (due_bit a.rows) (wide) (omega arith) c.requires.3 next, c.redraw_row-count.ensures.beside_len, next)
+
+pub returns-clause-notes_after : goal.returns-clause-notes_after
+returns-clause-notes_after c =
+    let a = c.args in
+    let wide : (l : ℕ) → l < 192 → length (line_by a.rows a.r a.vram.now a.frame.now l) ≡ 256 = wide_by a.rows a.r a.vram.now a.frame.now c.requires.3 in
+    let line = line_by a.rows a.r a.vram.now a.frame.now in
+    let note = note_by_rows a.rows a.r a.vram.now a.notes.now in
+    let e : 8 * c.loop-row.row ≡ 192 = omega arith in
+    let end : Redrawn 192 line note (due_bit a.rows) a.frame.now a.notes.now c.loop-row.frame c.loop-row.notes c.loop-row.redrawn 192 = subst (λ (l : ℕ). Redrawn 192 line note (due_bit a.rows) a.frame.now a.notes.now c.loop-row.frame c.loop-row.notes c.loop-row.redrawn l) e c.loop-row.invariant.3 in
+    (redrawn-all 192 line note (due_bit a.rows) wide c.requires.3 end).1
