@@ -1,0 +1,14 @@
+-- `count_up`: the first `i` bytes are put in.
+use Prim.Native.Nat.{◌≤◌, ◌-◌, ◌%◌}
+use native.Mathlib.Omega.{arith}
+use mathlib.Core.Path.{refl}
+use Rattle.chip.specs.Lists.{tabulate}
+use Rattle.scenes.proofs.Laws.Put.{Put, put-none, put-long, told_more, told-all}
+use borrow.Author.Rules.{rules}
+use Rattle.scenes.proofs.put.count_up.Given as goal
+
+abbrev pub invariant-loop-i : goal.invariant-loop-i
+invariant-loop-i l = (l.i ≤ l.count) × Put l.initial.vram l.at (tabulate l.count (λ k. k % 256)) l.vram l.i
+
+abbrev pub decreases-loop-i : goal.decreases-loop-i
+decreases-loop-i l = l.count - l.i
