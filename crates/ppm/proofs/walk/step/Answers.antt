@@ -13,15 +13,15 @@ pub returns-in-Refused-clause-value : goal.returns-in-Refused-clause-value
 returns-in-Refused-clause-value c =
     let room : 768 ≤ length c.args.out.now = search rules in
     let a = c.args in
-    let p = rw (refused-fits _ a.out.now (omega (arith, room))) at (c.refusal_line.ensures.value, c.refusal_line.ensures.out_after) in
-    rw (step_by a.vram.now a.walk c.in-Refused.is) ((λ i. record { walk = a.walk; written = p.0 i; last = true }))
+    let p = rw (refused-fits _ a.out.now (omega (arith, room))) at c.refusal_line.ensures.value in
+    rw (step_by a.vram.now a.walk c.in-Refused.is) ((λ i. record { walk = a.walk; written = p i; last = true }))
 
 pub returns-in-Refused-clause-out_after : goal.returns-in-Refused-clause-out_after
 returns-in-Refused-clause-out_after c =
     let room : 768 ≤ length c.args.out.now = search rules in
     let a = c.args in
-    let p = rw (refused-fits _ a.out.now (omega (arith, room))) at (c.refusal_line.ensures.value, c.refusal_line.ensures.out_after) in
-    rw (step_by a.vram.now a.walk c.in-Refused.is) (p.1)
+    let p = rw (refused-fits _ a.out.now (omega (arith, room))) at c.refusal_line.ensures.out_after in
+    rw (step_by a.vram.now a.walk c.in-Refused.is) p
 
 pub returns-in-Header-clause-value : goal.returns-in-Header-clause-value
 returns-in-Header-clause-value c =
