@@ -19,11 +19,11 @@ unfolding origin_text
 returns-clause-value c =
     let a = c.args in
     let h : a.at ≤ length a.out.now = omega (arith, c.requires.3) in
-    (after a.out.now a.at (source_text a.r a.vram.now a.l a.x a.code) (10 ∷ []) h c.put_source-end.ensures c.put.ensures).0
+    (after a.out.now a.at (source_text a.r a.vram.now a.l a.x a.code) (10 ∷ []) h (c.put_source-end.ensures.value, c.put_source-end.ensures.out_after) (c.put.ensures.value, c.put.ensures.to_after)).0
 
 pub returns-clause-out_after : goal.returns-clause-out_after
 unfolding origin_text
 returns-clause-out_after c =
     let a = c.args in
     let h : a.at ≤ length a.out.now = omega (arith, c.requires.3) in
-    (after a.out.now a.at (source_text a.r a.vram.now a.l a.x a.code) (10 ∷ []) h c.put_source-end.ensures c.put.ensures).1
+    (after a.out.now a.at (source_text a.r a.vram.now a.l a.x a.code) (10 ∷ []) h (c.put_source-end.ensures.value, c.put_source-end.ensures.out_after) (c.put.ensures.value, c.put.ensures.to_after)).1

@@ -15,4 +15,4 @@ pub returns-clause-out_after : goal.returns-clause-out_after
 returns-clause-out_after c =
     let a = c.args in
     let h : a.at ≤ length a.out.now = omega (arith, c.requires.2) in
-    (after a.out.now a.at (labelled pattern_at a.a.pattern) (labelled colours_at a.a.colours) h c.put_labelled-behind.ensures c.put_labelled.ensures).1
+    (after a.out.now a.at (labelled pattern_at a.a.pattern) (labelled colours_at a.a.colours) h (c.put_labelled-behind.ensures.value, c.put_labelled-behind.ensures.out_after) (c.put_labelled.ensures.value, c.put_labelled.ensures.out_after)).1

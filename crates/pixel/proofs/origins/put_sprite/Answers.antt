@@ -25,8 +25,8 @@ returns-clause-value c =
     let h : a.at ≤ length a.out.now = omega (arith, c.requires.2) in
     let address = attribute_address a.r a.n 0 in
     (after a.out.now a.at (labelled sprite a.n) (labelled attributes_at address) h
-    c.put_labelled-behind.ensures
-    (rw c.attribute_address-address.ensures at c.put_labelled.ensures)).0
+    (c.put_labelled-behind.ensures.value, c.put_labelled-behind.ensures.out_after)
+    (rw c.attribute_address-address.ensures at c.put_labelled.ensures.value, rw c.attribute_address-address.ensures at c.put_labelled.ensures.out_after)).0
 
 pub returns-clause-out_after : goal.returns-clause-out_after
 unfolding sprite_text
@@ -35,5 +35,5 @@ returns-clause-out_after c =
     let h : a.at ≤ length a.out.now = omega (arith, c.requires.2) in
     let address = attribute_address a.r a.n 0 in
     (after a.out.now a.at (labelled sprite a.n) (labelled attributes_at address) h
-    c.put_labelled-behind.ensures
-    (rw c.attribute_address-address.ensures at c.put_labelled.ensures)).1
+    (c.put_labelled-behind.ensures.value, c.put_labelled-behind.ensures.out_after)
+    (rw c.attribute_address-address.ensures at c.put_labelled.ensures.value, rw c.attribute_address-address.ensures at c.put_labelled.ensures.out_after)).1

@@ -57,11 +57,11 @@ unfolding tables_text
 returns-in-Text-clause-value c =
     let a = c.args in
     let h : a.at ≤ length a.out.now = omega (arith, c.requires.2) in
-    rw c.in-Text.is (after a.out.now a.at (labelled pattern_at a.a.pattern) register_colours h c.put_labelled-end.ensures c.put.ensures).0
+    rw c.in-Text.is (after a.out.now a.at (labelled pattern_at a.a.pattern) register_colours h (c.put_labelled-end.ensures.value, c.put_labelled-end.ensures.out_after) (c.put.ensures.value, c.put.ensures.to_after)).0
 
 pub returns-in-Text-clause-out_after : goal.returns-in-Text-clause-out_after
 unfolding tables_text
 returns-in-Text-clause-out_after c =
     let a = c.args in
     let h : a.at ≤ length a.out.now = omega (arith, c.requires.2) in
-    rw c.in-Text.is (after a.out.now a.at (labelled pattern_at a.a.pattern) register_colours h c.put_labelled-end.ensures c.put.ensures).1
+    rw c.in-Text.is (after a.out.now a.at (labelled pattern_at a.a.pattern) register_colours h (c.put_labelled-end.ensures.value, c.put_labelled-end.ensures.out_after) (c.put.ensures.value, c.put.ensures.to_after)).1

@@ -43,9 +43,9 @@ returns-clause-value c =
     let d : List ℕ = decimal c.args.colour in
     let n : List ℕ = name_of c.args.colour in
     let h : 0 ≤ length out = omega arith in
-    let q₂ = after out 0 d (32 ∷ []) h c.put_decimal-a.ensures c.put-b.ensures in
-    let q₃ = after out 0 (d ++ (32 ∷ [])) n h q₂ c.put_name-c.ensures in
-    let q₄ = after out 0 ((d ++ (32 ∷ [])) ++ n) (10 ∷ []) h q₃ c.put.ensures in
+    let q₂ = after out 0 d (32 ∷ []) h (c.put_decimal-a.ensures.value, c.put_decimal-a.ensures.out_after) (c.put-b.ensures.value, c.put-b.ensures.to_after) in
+    let q₃ = after out 0 (d ++ (32 ∷ [])) n h q₂ (c.put_name-c.ensures.value, c.put_name-c.ensures.out_after) in
+    let q₄ = after out 0 ((d ++ (32 ∷ [])) ++ n) (10 ∷ []) h q₃ (c.put.ensures.value, c.put.ensures.to_after) in
     let e : ((d ++ (32 ∷ [])) ++ n) ++ (10 ∷ []) ≡ colour_text c.args.colour = simp append_assoc in
     q₄.0 ∙ zero-add _ ∙ ap length e
 
@@ -56,8 +56,8 @@ returns-clause-out_after c =
     let d : List ℕ = decimal c.args.colour in
     let n : List ℕ = name_of c.args.colour in
     let h : 0 ≤ length out = omega arith in
-    let q₂ = after out 0 d (32 ∷ []) h c.put_decimal-a.ensures c.put-b.ensures in
-    let q₃ = after out 0 (d ++ (32 ∷ [])) n h q₂ c.put_name-c.ensures in
-    let q₄ = after out 0 ((d ++ (32 ∷ [])) ++ n) (10 ∷ []) h q₃ c.put.ensures in
+    let q₂ = after out 0 d (32 ∷ []) h (c.put_decimal-a.ensures.value, c.put_decimal-a.ensures.out_after) (c.put-b.ensures.value, c.put-b.ensures.to_after) in
+    let q₃ = after out 0 (d ++ (32 ∷ [])) n h q₂ (c.put_name-c.ensures.value, c.put_name-c.ensures.out_after) in
+    let q₄ = after out 0 ((d ++ (32 ∷ [])) ++ n) (10 ∷ []) h q₃ (c.put.ensures.value, c.put.ensures.to_after) in
     let e : ((d ++ (32 ∷ [])) ++ n) ++ (10 ∷ []) ≡ colour_text c.args.colour = simp append_assoc in
     q₄.1 ∙ ap (λ (t : List ℕ). put_at 0 t out) e

@@ -58,7 +58,7 @@ returns-clause-value c =
     let vram = a.vram.now in
     let h : 0 ≤ length out = omega arith in
     let origin = origin_text r vram a.line a.column c.point-answer.result.origin in
-    let w = after out 0 (colour_text c.point-answer.result.colour) origin h (c.put_colour-end.ensures.value ∙ sym (zero-add _), c.put_colour-end.ensures.out_after) c.put_origin.ensures in
+    let w = after out 0 (colour_text c.point-answer.result.colour) origin h (c.put_colour-end.ensures.value ∙ sym (zero-add _), c.put_colour-end.ensures.out_after) (c.put_origin.ensures.value, c.put_origin.ensures.out_after) in
     let text =
     ap (λ (x : PointAnswer). colour_text x.colour ++ origin_text r vram a.line a.column x.origin) c.point-answer.ensures
     ∙ point-shown a.chip vram a.line a.column (accepted) in
@@ -75,7 +75,7 @@ returns-clause-out_after c =
     let vram = a.vram.now in
     let h : 0 ≤ length out = omega arith in
     let origin = origin_text r vram a.line a.column c.point-answer.result.origin in
-    let w = after out 0 (colour_text c.point-answer.result.colour) origin h (c.put_colour-end.ensures.value ∙ sym (zero-add _), c.put_colour-end.ensures.out_after) c.put_origin.ensures in
+    let w = after out 0 (colour_text c.point-answer.result.colour) origin h (c.put_colour-end.ensures.value ∙ sym (zero-add _), c.put_colour-end.ensures.out_after) (c.put_origin.ensures.value, c.put_origin.ensures.out_after) in
     let text =
     ap (λ (x : PointAnswer). colour_text x.colour ++ origin_text r vram a.line a.column x.origin) c.point-answer.ensures
     ∙ point-shown a.chip vram a.line a.column (accepted) in
