@@ -21,6 +21,7 @@ loop-i-preserved c =
 
 pub returns : goal.returns
 returns c =
+    λ clear n h.
     let a = c.args in
     attribute-bit a.map.now a.from n 0 (lit< tt)
     ∙ c.loop-i.invariant.1 (4 * (n % 2) + 0) (n / 2) (omega arith) (apart_from (4 * (n % 2) + 0) c.loop-i.joined 17 (eqb-true _ _ clear) (y-bits (n % 2) (omega arith)))

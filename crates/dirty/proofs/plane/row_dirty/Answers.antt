@@ -1,7 +1,7 @@
 -- `row_dirty` meets its contract.
 use Prim.Native.Nat.{ℕ, ◌+◌, ◌*◌, ◌<◌}
 use mathlib.Core.Path.{◌≡◌, sym, ap, ap₂, ◌∙◌}
-use mathlib.Core.Bool.{Bool, ◌||◌}
+use mathlib.Core.Bool.{Bool, true, false, ◌||◌}
 use Rattle.fetches.specs.Fetch.{fetched, any_dirty}
 use Rattle.planes.specs.Cells.{plane_of}
 use Rattle.dirty.specs.Plane.{patterns_dirty, colours_dirty}
@@ -12,19 +12,19 @@ use Rattle.dirty.proofs.plane.row_dirty.Goals as goal
 
 pub returns-then-names_dirty : goal.returns-then-names_dirty
 returns-then-names_dirty c =
-    let by_names : {t : Bool} → c.names_dirty.result ≡ t → (k : ℕ) → k < 8 → let a = c.args in let l = 8 * a.row + k in any_dirty a.map.now (fetched (plane_of a.mode a.r l) a.vram.now) ≡ (t || (patterns_dirty a.mode a.r a.vram.now a.map.now l || colours_dirty a.mode a.r a.vram.now a.map.now l)) = λ e k h. let a = c.args in
+    let by_names : (t : Bool) → c.names_dirty.result ≡ t → (k : ℕ) → k < 8 → let a = c.args in let l = 8 * a.row + k in any_dirty a.map.now (fetched (plane_of a.mode a.r l) a.vram.now) ≡ (t || (patterns_dirty a.mode a.r a.vram.now a.map.now l || colours_dirty a.mode a.r a.vram.now a.map.now l)) = λ t e k h. let a = c.args in
     let l = 8 * a.row + k in
     plane-dirty a.r a.vram.now a.map.now a.mode l
     ∙ ap (λ (b : Bool). b || (patterns_dirty a.mode a.r a.vram.now a.map.now l || colours_dirty a.mode a.r a.vram.now a.map.now l)) (sym (c.names_dirty.ensures k h) ∙ e) in
-    λ k h. full-bit k h ∙ sym (by_names c.if-names_dirty.true k h)
+    λ k h. full-bit k h ∙ sym (by_names true c.if-names_dirty.true k h)
 
 pub returns : goal.returns
 returns c =
-    let by_names : {t : Bool} → c.names_dirty.result ≡ t → (k : ℕ) → k < 8 → let a = c.args in let l = 8 * a.row + k in any_dirty a.map.now (fetched (plane_of a.mode a.r l) a.vram.now) ≡ (t || (patterns_dirty a.mode a.r a.vram.now a.map.now l || colours_dirty a.mode a.r a.vram.now a.map.now l)) = λ e k h. let a = c.args in
+    let by_names : (t : Bool) → c.names_dirty.result ≡ t → (k : ℕ) → k < 8 → let a = c.args in let l = 8 * a.row + k in any_dirty a.map.now (fetched (plane_of a.mode a.r l) a.vram.now) ≡ (t || (patterns_dirty a.mode a.r a.vram.now a.map.now l || colours_dirty a.mode a.r a.vram.now a.map.now l)) = λ t e k h. let a = c.args in
     let l = 8 * a.row + k in
     plane-dirty a.r a.vram.now a.map.now a.mode l
     ∙ ap (λ (b : Bool). b || (patterns_dirty a.mode a.r a.vram.now a.map.now l || colours_dirty a.mode a.r a.vram.now a.map.now l)) (sym (c.names_dirty.ensures k h) ∙ e) in
     λ k h.
     bit-or k c.patterns_of.result c.colours_of.result
     ∙ ap₂ ◌||◌ (c.patterns_of.ensures k h) (c.colours_of.ensures k h)
-    ∙ sym (by_names c.if-names_dirty.false k h)
+    ∙ sym (by_names false c.if-names_dirty.false k h)

@@ -60,3 +60,14 @@ loop-k-preserved c =
     let noted = rw c.bit-is_due.ensures at c.redraw_line.ensures.value ∙ ap (cond (is c.loop-k.k) (note_at a.r a.vram.now (8 * a.row + c.loop-k.k))) (c.loop-k.invariant.2.rest c.loop-k.k (omega arith)) in
     let next = redrawn-line 8 line note is (wide) more c.requires.8 c.loop-k.invariant.2 (width c.loop-k.k) drawn noted c.bit-is_due.ensures in
     (omega arith, next.0, next.1)
+
+pub returns-clause-notes_after : goal.returns-clause-notes_after
+returns-clause-notes_after c =
+    let a = c.args in
+    let wide : (j : ℕ) → j < 8 → length (row_line a.r a.vram.now a.row a.due a.part.now j) ≡ 256 = wide_row a.r a.vram.now a.row a.due a.part.now c.requires.8 in
+    let line = row_line a.r a.vram.now a.row a.due a.part.now in
+    let note = row_note a.r a.vram.now a.row a.due a.notes.now in
+    let is : ℕ → Bool = λ j. bit j a.due in
+    let e : c.loop-k.k ≡ 8 = omega arith in
+    let end : Redrawn 8 line note is a.part.now a.notes.now c.loop-k.part c.loop-k.notes c.loop-k.redrawn 8 = subst (λ (k : ℕ). Redrawn 8 line note is a.part.now a.notes.now c.loop-k.part c.loop-k.notes c.loop-k.redrawn k) e c.loop-k.invariant.2 in
+    (redrawn-all 8 line note is wide c.requires.8 end).1

@@ -1,0 +1,28 @@
+-- `due_rows` meets its contract.
+use mathlib.Core.Path.{◌≡◌, refl, sym, ap, ◌∙◌}
+use mathlib.Core.Bool.{true, false}
+use Rattle.chip.proofs.Laws.Bits.{bit-zero, full-bit}
+use Rattle.fetches.specs.Fetch.{fetched}
+use Rattle.scanline.specs.Line.{line_of}
+use Rattle.dirty.proofs.Laws.Clear.{none-dirty}
+use Rattle.frame.specs.Due.{due}
+use Rattle.frame.proofs.Laws.Bits.{all-rows}
+use borrow.Author.Rules.{rules}
+use Rattle.frame.proofs.lines.due_rows.Goals as goal
+
+pub returns-then-redraw : goal.returns-then-redraw
+unfolding due
+returns-then-redraw c =
+    let a = c.args in
+    all-rows 255 (due a.redraw a.r a.vram.now a.map.now) true full-bit (λ l. rw c.if-redraw.true)
+
+pub returns-then-is_clear : goal.returns-then-is_clear
+unfolding due
+returns-then-is_clear c =
+    let a = c.args in
+    let clear = sym c.is_clear.ensures ∙ c.if-is_clear.true in
+    all-rows 0 (due a.redraw a.r a.vram.now a.map.now) false (λ k h. bit-zero k) (λ l. rw c.if-redraw.false (none-dirty a.map.now clear (fetched (line_of a.r l) a.vram.now)))
+
+pub returns : goal.returns
+unfolding due
+returns c = rw c.if-redraw.false c.dirty_rows.ensures
