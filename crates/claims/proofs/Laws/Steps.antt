@@ -48,7 +48,7 @@ step_keeps {b} inv call bytes = by (step-outcome b inv.ready.fits call (fit-for 
 pub run-keeps : {b : Bench} → Invariant b → (calls : List Call) → CallsBytes calls → Invariant (run b calls)
 unfolding run
 run-keeps inv [] bytes = inv
-run-keeps inv (call ∷ calls) bytes = run-keeps (step_keeps inv call bytes.0) calls bytes.1
+run-keeps {b = b} inv (call ∷ calls) bytes = run-keeps {b = (step b call).bench} (step_keeps inv call bytes.0) calls bytes.1
 
 pub step-establishes : (b : Bench) → Lengths b → Typed b → (call : Call) → (described call.op).establishes ≡ true → (described call.op).brings.AreBytes → (step b call).reply.refusal ≡ 0 → Invariant (step b call).bench
 step-establishes b lengths typed call does bytes zero =
