@@ -1,4 +1,4 @@
-//! Links target/staticlib/libbirdcleft.a, which `rt staticlib birdcleft` writes.
+//! Links target/staticlib/libbirdcleft.a, which tests/host/library makes.
 
 fn main() {
     let folder = concat!(env!("CARGO_MANIFEST_DIR"), "/../target/staticlib");

@@ -1,6 +1,6 @@
 /* A small bench host: it runs a driver against the chip, looks at the pictures and says what is wrong.
  *
- *     rt staticlib birdcleft
+ *     tests/host/library
  *     gcc -Iinclude examples/host.c target/staticlib/libbirdcleft.a -o host
  *
  * The driver is what would run on the board. It reaches the chip through the control port and the data port alone.

@@ -62,9 +62,10 @@ def quotients(text):
 
 
 def crates_under(root, names):
-    """These crates and all that they stand on."""
+    """These crates and all that they stand on. Behind a crate's name stands what is made of it, where that is a static library."""
     lines = (root / "crates.txt").read_text(encoding="utf-8").splitlines()
-    listed = dict(line.split(":") for line in lines if ":" in line and not line.startswith("#"))
+    parts = [line.split(":") for line in lines if ":" in line and not line.startswith("#")]
+    listed = {crate.split()[0]: below for crate, below in parts}
     found, left = [], list(names)
     while left:
         name = left.pop()

@@ -12,7 +12,7 @@ from divisions import crates_under, quotients
 
 HERE = pathlib.Path(__file__).resolve().parent
 ROOT = HERE.parent.parent
-LIBRARY = "birdcleft"
+LIBRARY = "birdcleft_c"
 
 # Found are these, each by the line that has its division:
 FOUND = (
@@ -28,9 +28,9 @@ LEFT = (
 )
 # Contracts divide as the definitions do.
 CONTRACTS = """
-    requires { ⌜ d / 6 < 40 ⌝ }
-    ensures cell { λ p. ⌜ p .cell ≡ d / 6 ⌝ }
-    ensures { λ p. ⌜ p ≡ record { cell = d / 6; pixel = d % 6 } ⌝ }
+    requires { d / 6 < 40 }
+    ensures cell { result.cell ≡ d / 6 }
+    ensures both { result ≡ record { cell = d / 6; pixel = d % 6 } }
 """
 OBJECTS = (
     ("quotient", "unsigned long f(unsigned long a, unsigned long b) { return a / b; }", "div"),
@@ -63,7 +63,7 @@ def said_of(*words):
 
 
 def function(expression):
-    return f"\nghost use Prim.Native.Nat.{{_/_, _%_}};\nfn planted(d: usize) -> usize{CONTRACTS}{{\n    {expression}\n}}\n"
+    return f"\nghost use Rattle.std.specs.Prelude.{{◌/◌, ◌%◌}};\nfn planted(d: usize) -> usize{CONTRACTS}{{\n    {expression}\n}}\n"
 
 
 def line_that_divides(expression):
@@ -100,7 +100,7 @@ def try_crate(copy, crate):
 
 
 def try_sources(copy):
-    shutil.copytree(ROOT / "crates", copy / "crates", ignore=shutil.ignore_patterns("proofs", "must-fail"))
+    shutil.copytree(ROOT / "crates", copy / "crates", ignore=shutil.ignore_patterns("proofs", "must-fail", "out"))
     shutil.copy(ROOT / "crates.txt", copy)
     ended, said = said_of("sources", copy, LIBRARY)
     check(ended == 0, "the sources as they are", said)

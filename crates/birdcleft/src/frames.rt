@@ -4,8 +4,7 @@ ghost use Rattle.birdcleft.specs.Frames as frames;
 
 use crate::{finish, vram_entry};
 
-#[unsafe(no_mangle)]
-pub extern "C" fn vdp_full_draw(
+pub fn vdp_full_draw(
     block: &mut [u8],
     vram: &[u8],
     map: &mut [u8],
@@ -26,8 +25,7 @@ pub extern "C" fn vdp_full_draw(
     finish(answer, block)
 }
 
-#[unsafe(no_mangle)]
-pub extern "C" fn vdp_refresh(
+pub fn vdp_refresh(
     block: &mut [u8],
     vram: &[u8],
     map: &mut [u8],

@@ -1,7 +1,7 @@
-// The calls from C. Each on a state tests VRAM's length, where VRAM is lent, and the block's, without which the block cannot be
-// decoded; then it loads the state and makes the direct call. A call that is lent the block to write stores the next state if
-// the call was accepted; the four that are lent it to read (`vdp_interrupt_line`, `vdp_point`, `vdp_origin`, `vdp_write_snapshot`)
-// store nothing there.
+// The calls from C, which the crate `birdcleft_c` exports. Each on a state tests VRAM's length, where VRAM is lent, and the
+// block's, without which the block cannot be decoded; then it loads the state and makes the direct call. A call that is lent the
+// block to write stores the next state if the call was accepted; the four that are lent it to read (`vdp_interrupt_line`,
+// `vdp_point`, `vdp_origin`, `vdp_write_snapshot`) store nothing there.
 #![tactic(auto)]
 
 ghost use Rattle.std.specs.Prelude.{◌≡◌, ◌*◌, length};
@@ -16,6 +16,12 @@ mod lines;
 mod logs;
 mod points;
 mod snapshots;
+
+pub use frames::{vdp_full_draw, vdp_refresh};
+pub use lines::vdp_draw_line;
+pub use logs::{vdp_read_log, vdp_run_log, vdp_write_log};
+pub use points::{vdp_origin, vdp_point};
+pub use snapshots::{vdp_read_snapshot, vdp_write_snapshot};
 
 // 256 times a refusal's number.
 fn result_of(refusal: Refusal) -> u32
@@ -58,8 +64,7 @@ fn finish(answer: Answer, block: &mut [u8]) -> u32
     answer.number()
 }
 
-#[unsafe(no_mangle)]
-pub extern "C" fn vdp_power_up(block: &mut [u8], vram: &mut [u8]) -> u32
+pub fn vdp_power_up(block: &mut [u8], vram: &mut [u8]) -> u32
     ensures value { result ≡ (calls.power_up block.old vram.old).result }
     ensures block_after { block.new ≡ (calls.power_up block.old vram.old).block }
     ensures vram_after { vram.new ≡ calls.power_up_vram block.old vram.old }
@@ -72,8 +77,7 @@ pub extern "C" fn vdp_power_up(block: &mut [u8], vram: &mut [u8]) -> u32
     finish(answer, block)
 }
 
-#[unsafe(no_mangle)]
-pub extern "C" fn vdp_control_write(block: &mut [u8], vram: &[u8], byte: u8) -> u32
+pub fn vdp_control_write(block: &mut [u8], vram: &[u8], byte: u8) -> u32
     ensures value { result ≡ (calls.control_write block.old vram.now byte).result }
     ensures block_after { block.new ≡ (calls.control_write block.old vram.now byte).block }
 {
@@ -85,8 +89,7 @@ pub extern "C" fn vdp_control_write(block: &mut [u8], vram: &[u8], byte: u8) -> 
     finish(answer, block)
 }
 
-#[unsafe(no_mangle)]
-pub extern "C" fn vdp_data_write(block: &mut [u8], vram: &mut [u8], map: &mut [u8], byte: u8) -> u32
+pub fn vdp_data_write(block: &mut [u8], vram: &mut [u8], map: &mut [u8], byte: u8) -> u32
     ensures value { result ≡ (calls.data_write block.old vram.old map.old byte).result }
     ensures block_after { block.new ≡ (calls.data_write block.old vram.old map.old byte).block }
     ensures vram_after { vram.new ≡ calls.data_write_vram block.old vram.old map.old byte }
@@ -100,8 +103,7 @@ pub extern "C" fn vdp_data_write(block: &mut [u8], vram: &mut [u8], map: &mut [u
     finish(answer, block)
 }
 
-#[unsafe(no_mangle)]
-pub extern "C" fn vdp_data_read(block: &mut [u8], vram: &[u8]) -> u32
+pub fn vdp_data_read(block: &mut [u8], vram: &[u8]) -> u32
     ensures value { result ≡ (calls.data_read block.old vram.now).result }
     ensures block_after { block.new ≡ (calls.data_read block.old vram.now).block }
 {
@@ -113,8 +115,7 @@ pub extern "C" fn vdp_data_read(block: &mut [u8], vram: &[u8]) -> u32
     finish(answer, block)
 }
 
-#[unsafe(no_mangle)]
-pub extern "C" fn vdp_status_read(block: &mut [u8]) -> u32
+pub fn vdp_status_read(block: &mut [u8]) -> u32
     ensures value { result ≡ (calls.status_read block.old).result }
     ensures block_after { block.new ≡ (calls.status_read block.old).block }
 {
@@ -126,8 +127,7 @@ pub extern "C" fn vdp_status_read(block: &mut [u8]) -> u32
     finish(answer, block)
 }
 
-#[unsafe(no_mangle)]
-pub extern "C" fn vdp_end_of_display(block: &mut [u8]) -> u32
+pub fn vdp_end_of_display(block: &mut [u8]) -> u32
     ensures value { result ≡ (calls.end_of_display block.old).result }
     ensures block_after { block.new ≡ (calls.end_of_display block.old).block }
 {
@@ -139,8 +139,7 @@ pub extern "C" fn vdp_end_of_display(block: &mut [u8]) -> u32
     finish(answer, block)
 }
 
-#[unsafe(no_mangle)]
-pub extern "C" fn vdp_interrupt_line(block: &[u8]) -> u32
+pub fn vdp_interrupt_line(block: &[u8]) -> u32
     ensures { result ≡ calls.interrupt_line block.now }
 {
     let refused = block_entry(block);
@@ -150,8 +149,7 @@ pub extern "C" fn vdp_interrupt_line(block: &[u8]) -> u32
     chip::load(block).interrupt_line().number()
 }
 
-#[unsafe(no_mangle)]
-pub extern "C" fn vdp_reset(block: &mut [u8]) -> u32
+pub fn vdp_reset(block: &mut [u8]) -> u32
     ensures value { result ≡ (calls.reset block.old).result }
     ensures block_after { block.new ≡ (calls.reset block.old).block }
 {

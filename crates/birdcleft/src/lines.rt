@@ -4,8 +4,7 @@ ghost use Rattle.birdcleft.specs.Lines as lines;
 
 use crate::{finish, vram_entry};
 
-#[unsafe(no_mangle)]
-pub extern "C" fn vdp_draw_line(
+pub fn vdp_draw_line(
     block: &mut [u8],
     vram: &[u8],
     line: &mut [u8],

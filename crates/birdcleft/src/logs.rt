@@ -37,8 +37,7 @@ fn report(ran: Ran, outcome: &mut [u8])
     put(outcome, 2, &place);
 }
 
-#[unsafe(no_mangle)]
-pub extern "C" fn vdp_run_log(
+pub fn vdp_run_log(
     block: &mut [u8],
     vram: &mut [u8],
     map: &mut [u8],
@@ -62,16 +61,14 @@ pub extern "C" fn vdp_run_log(
     finish(ran.answer(), block)
 }
 
-#[unsafe(no_mangle)]
-pub extern "C" fn vdp_read_log(log: &[u8], records: &mut [u8]) -> u32
+pub fn vdp_read_log(log: &[u8], records: &mut [u8]) -> u32
     ensures value { result ≡ logs.read_log log.now records.old }
     ensures records_after { records.new ≡ direct.read_records log.now records.old }
 {
     result_of(port_log::read(log, records))
 }
 
-#[unsafe(no_mangle)]
-pub extern "C" fn vdp_write_log(records: &[u8], log: &mut [u8]) -> u32
+pub fn vdp_write_log(records: &[u8], log: &mut [u8]) -> u32
     ensures value { result ≡ logs.write_log records.now log.old }
     ensures log_after { log.new ≡ direct.written_log records.now log.old }
 {

@@ -32,16 +32,14 @@ fn point_results(block: &[u8], vram: &[u8], line: u32, column: u32) -> PointResu
     }
 }
 
-#[unsafe(no_mangle)]
-pub extern "C" fn vdp_point(block: &[u8], vram: &[u8], line: u32, column: u32) -> u32
+pub fn vdp_point(block: &[u8], vram: &[u8], line: u32, column: u32) -> u32
     ensures { result ≡ points.point block.now vram.now line column }
 {
     let results = point_results(block, vram, line, column);
     results.colour
 }
 
-#[unsafe(no_mangle)]
-pub extern "C" fn vdp_origin(block: &[u8], vram: &[u8], line: u32, column: u32) -> u32
+pub fn vdp_origin(block: &[u8], vram: &[u8], line: u32, column: u32) -> u32
     ensures { result ≡ points.origin block.now vram.now line column }
 {
     let results = point_results(block, vram, line, column);

@@ -1,6 +1,6 @@
 -- Coincidence leaves no column out. Where VRAM holds bytes, so that X is one, no two sprites that a line draws have a set bit at
 -- the same column beyond those that `coincidence` looks at; and at the first and the last of these two sprites can meet.
-use Rattle.std.proofs.Common.{◌≡◌, ℕ, ◌-◌, ◌<◌, ◌≤◌, true, false, List, [], ◌∷◌, get_or, refl, ◌∙◌, arith}
+use Rattle.std.proofs.Common.{◌≡◌, ℕ, ◌-◌, ◌<◌, ◌≤◌, true, false, List, [], ◌∷◌, get_or, refl, arith}
 use Rattle.fetches.specs.Fetch.{value}
 use Rattle.sprites.specs.Pixels.{hits, meet, reach}
 use Rattle.sprites.specs.Scan.{scan_of}

@@ -1,7 +1,6 @@
 -- `block_entry` meets its contract.
 use borrow.Author.Tests.{eq-eqb, ne_eqb}
 use Rattle.birdcleft.specs.Calls.{block_entry}
-use borrow.Author.Rules.{rules}
 use Rattle.birdcleft.proofs.block_entry.Goals as goal
 
 pub returns-then-block-ne17 : goal.returns-then-block-ne17

@@ -1,5 +1,4 @@
 -- `vdp_data_read` meets its contract.
-use borrow.Author.Rules.{rules}
 use Rattle.birdcleft.proofs.Laws.{lengths, at_entry_lem, at-end}
 use Rattle.birdcleft.proofs.vdp_data_read.Goals as goal
 

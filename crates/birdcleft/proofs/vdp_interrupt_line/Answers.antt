@@ -1,5 +1,4 @@
 -- `vdp_interrupt_line` meets its contract.
-use borrow.Author.Rules.{rules}
 use Rattle.birdcleft.proofs.Laws.{lengths, at_entry_lem, at-end}
 use Rattle.birdcleft.proofs.vdp_interrupt_line.Goals as goal
 

@@ -1,7 +1,6 @@
 -- `vram_entry` meets its contract.
 use borrow.Author.Tests.{eq-eqb, ne_eqb}
 use Rattle.birdcleft.specs.Calls.{block_entry, vram_entry}
-use borrow.Author.Rules.{rules}
 use Rattle.birdcleft.proofs.vram_entry.Goals as goal
 
 pub returns-then-vram-ne16384 : goal.returns-then-vram-ne16384

@@ -1,14 +1,12 @@
 -- A part of the map, and the VRAM bytes whose bits it has.
 use Prim.Native.Nat.{ℕ, zero, suc, ◌+◌, ◌-◌, ◌*◌, ◌/◌, ◌%◌, ◌≤◌, ◌<◌}
-use native.Mathlib.Nat.{div-eq_of_lt, lt_of_lt_of_le, le_step, lt-suc_self}
-use native.Mathlib.Decide.{dec_lt}
+use native.Mathlib.Nat.{le_step, lt-suc_self}
 use native.Mathlib.Omega.{arith}
 use mathlib.Core.Path.{◌≡◌, refl, sym, ap, ap₂, ◌∙◌}
 use mathlib.Core.Bool.{Bool, true, false, not, ◌&&◌}
 use mathlib.Core.List.{List}
 use lib.Dec.{eqb}
 use lib.ListN.{length, get_or, take, drop, length-drop}
-use lib.Pow.{pow_mono}
 use lib.Seq.{get_or-take, get_or-drop, length-take-le}
 use Rattle.chip.specs.Bits.{bit}
 use Rattle.chip.specs.Map.{is_dirty}

@@ -1,17 +1,16 @@
 -- A line's dirty bytes are its plane's and its sprites'.
 use Prim.Native.Nat.{ℕ, ◌+◌, ◌*◌, ◌<◌}
-use native.Mathlib.Omega.{arith}
-use mathlib.Core.Path.{◌≡◌, refl, sym, ap, ◌∙◌}
-use mathlib.Core.Bool.{Bool, true, false, cond, ◌||◌}
+use mathlib.Core.Path.{◌≡◌, sym, ap, ◌∙◌}
+use mathlib.Core.Bool.{Bool, true, false, ◌||◌}
 use mathlib.Core.List.{List}
 use lib.ListN.{length, get_or}
 use Rattle.chip.specs.Bits.{bit}
 use Rattle.chip.specs.Modes.{mode_of}
 use Rattle.chip.proofs.Laws.Ranges.{or-false}
-use Rattle.fetches.specs.Fetch.{answer, fetched, any_dirty}
+use Rattle.fetches.specs.Fetch.{fetched, any_dirty}
 use Rattle.planes.specs.Cells.{plane_of}
 use Rattle.sprites.specs.Scan.{scan_of}
-use Rattle.scanline.specs.Line.{no_sprites, has_sprites, sprites_of, line_of}
+use Rattle.scanline.specs.Line.{has_sprites, sprites_of, line_of}
 use Rattle.scanline.proofs.Laws.Line.{line-fetches}
 use Rattle.dirty.specs.Rows.{RowBits}
 

@@ -1,7 +1,7 @@
 -- One row of a frame that is redrawn by a byte for each row.
 use Prim.Native.Nat.{ℕ, ◌+◌, ◌*◌, ◌/◌, ◌%◌, ◌≤◌, ◌<◌}
 use native.Mathlib.Omega.{arith}
-use mathlib.Core.Path.{◌≡◌, sym, ap, ap₂, ◌∙◌}
+use mathlib.Core.Path.{◌≡◌, ap, ap₂, ◌∙◌}
 use mathlib.Core.Bool.{Bool, cond}
 use mathlib.Core.List.{List}
 use lib.ListN.{length, get_or, take, drop}
@@ -10,7 +10,7 @@ use Rattle.chip.specs.Bits.{bit}
 use Rattle.chip.specs.Lists.{tabulate}
 use Rattle.chip.proofs.Laws.Lists.{length-tabulate, tabulate-same}
 use Rattle.scanline.specs.Calls.{note_at, colours}
-use Rattle.redraw.specs.Row.{row_line, row_lines, row_note, row_notes, row_count}
+use Rattle.redraw.specs.Row.{row_line, row_lines, row_notes, row_count}
 use Rattle.redraw.proofs.Laws.Still.{count_same}
 use Rattle.frame.specs.Lines.{lines_end_to_end, line_at, count_below}
 use Rattle.frame.specs.Rows.{due_bit, line_by, note_by_rows}

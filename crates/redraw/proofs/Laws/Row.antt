@@ -1,12 +1,11 @@
 -- The lines of a row.
-use Prim.Native.Nat.{ℕ, ◌+◌, ◌*◌, ◌-◌, ◌/◌, ◌%◌, ◌≤◌, ◌<◌}
+use Prim.Native.Nat.{ℕ, ◌+◌, ◌*◌, ◌/◌, ◌%◌, ◌<◌}
 use native.Mathlib.Omega.{arith}
-use mathlib.Core.Path.{◌≡◌, sym, ap, ap₂, ◌∙◌}
+use mathlib.Core.Path.{◌≡◌, ap, ap₂, ◌∙◌}
 use mathlib.Core.List.{List}
 use lib.ListN.{length, get_or, take, drop, length-drop}
 use lib.Seq.{get_or-take, get_or-drop, length-take-le}
 use Rattle.chip.specs.Bits.{bit}
-use Rattle.chip.specs.Lists.{tabulate}
 use Rattle.chip.specs.Modes.{mode_of}
 use Rattle.chip.proofs.Laws.Lists.{tabulated, length-tabulate, get_d_tabulate}
 use Rattle.rows.specs.Rows.{plane_pixel, plane_row}

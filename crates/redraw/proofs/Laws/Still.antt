@@ -4,7 +4,7 @@ use native.Mathlib.Nat.{mul-suc, le_step, lt-suc_self}
 use native.Mathlib.Omega.{arith}
 use mathlib.Core.Path.{◌≡◌, refl, sym, ap, ap₂, ◌∙◌}
 use mathlib.Core.Bool.{Bool, false, cond}
-use mathlib.Core.List.{List, [], ◌++◌}
+use mathlib.Core.List.{List, ◌++◌}
 use lib.ListN.{length, get_or, take}
 use lib.Seq.{take-add, take_all}
 use mir.Val.{bool_byte}

@@ -1,7 +1,7 @@
 -- What depends on one byte alone, by a test of each byte.
 use Prim.Native.Nat.{ℕ, ◌+◌, ◌-◌, ◌*◌, ◌%◌, ◌^◌, ◌<◌}
-use mathlib.Core.Path.{◌≡◌, refl, ap, ◌∙◌}
-use mathlib.Core.Bool.{Bool, true, cond}
+use mathlib.Core.Path.{refl, ap, ◌∙◌}
+use mathlib.Core.Bool.{Bool, cond}
 use borrow.Author.Tests.{eqb-true}
 use lib.Bits.{bit_or}
 use lib.Dec.{eqb}

@@ -1,5 +1,4 @@
 -- `vdp_full_draw` meets its contract.
-use borrow.Author.Rules.{rules}
 use Rattle.birdcleft.proofs.Laws.{lengths, at_entry_lem, at-end}
 use Rattle.birdcleft.proofs.frames.vdp_full_draw.Goals as goal
 

@@ -1,5 +1,4 @@
 -- `vdp_refresh` meets its contract.
-use borrow.Author.Rules.{rules}
 use Rattle.birdcleft.proofs.Laws.{lengths, at_entry_lem, at-end}
 use Rattle.birdcleft.proofs.frames.vdp_refresh.Goals as goal
 

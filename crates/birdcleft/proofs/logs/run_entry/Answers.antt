@@ -1,7 +1,6 @@
 -- `run_entry`: VRAM's and the block's lengths are tested as for every call, and then the outcome's.
 use Prim.Native.Nat.{◌*◌}
 use mathlib.Core.Path.{sym, ap, ◌∙◌}
-use borrow.Author.Rules.{rules}
 use Rattle.chip.specs.Refusals.{number_of}
 use Rattle.chip.specs.declared.refusal.Refusal.{Refusal}
 use Rattle.birdcleft.specs.Calls.{vram_entry}

@@ -1,6 +1,5 @@
 -- `vdp_run_log` meets its contract.
 use mathlib.Core.Path.{ap, ◌∙◌}
-use borrow.Author.Rules.{rules}
 use Rattle.port_log.specs.Run.{answer_of}
 use Rattle.birdcleft.proofs.Laws.{lengths, at_entry_lem, run-seventeen, outcome-four, direct-result, direct_block, direct-list}
 use Rattle.birdcleft.proofs.logs.vdp_run_log.Goals as goal
@@ -33,10 +32,10 @@ pub load-requires : goal.load-requires
 load-requires c = search lengths
 
 pub report-requires : goal.report-requires
-report-requires c =     outcome-four _ _ _ c.run_entry-refused.ensures c.if-refused-ne0.false
+report-requires c = outcome-four _ _ _ c.run_entry-refused.ensures c.if-refused-ne0.false
 
 pub finish-requires : goal.finish-requires
-finish-requires c =     run-seventeen _ _ _ c.run_entry-refused.ensures c.if-refused-ne0.false
+finish-requires c = run-seventeen _ _ _ c.run_entry-refused.ensures c.if-refused-ne0.false
 
 pub returns-clause-value : goal.returns-clause-value
 returns-clause-value c =

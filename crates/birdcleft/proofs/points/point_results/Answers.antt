@@ -7,7 +7,6 @@ use Rattle.point.specs.Calls as direct
 use Rattle.point.specs.declared.call.PointAnswer.{PointAnswer}
 use Rattle.birdcleft.specs.Calls.{vram_entry}
 use Rattle.birdcleft.proofs.Laws.{lengths, refused-result, direct-result}
-use borrow.Author.Rules.{rules}
 use Rattle.birdcleft.proofs.points.point_results.Goals as goal
 
 pub returns-then-refused-ne0-clause-colour_value : goal.returns-then-refused-ne0-clause-colour_value
@@ -34,7 +33,7 @@ returns-clause-colour_value c =
     let block = c.args.block.now in
     let loaded = c.load.ensures in
     direct-result (entry) block (call (λ q. direct.colour_answer q)) c.vram_entry-refused.ensures c.if-refused-ne0.false loaded
-          (c.colour_answer.ensures ∙ ap (λ (q : PointAnswer). direct.colour_answer q) c.point-answer.ensures) c.number-colour.ensures
+    (c.colour_answer.ensures ∙ ap (λ (q : PointAnswer). direct.colour_answer q) c.point-answer.ensures) c.number-colour.ensures
 
 pub returns-clause-origin_value : goal.returns-clause-origin_value
 returns-clause-origin_value c =
@@ -43,4 +42,4 @@ returns-clause-origin_value c =
     let block = c.args.block.now in
     let loaded = c.load.ensures in
     direct-result (entry) block (call (λ q. direct.origin_answer q)) c.vram_entry-refused.ensures c.if-refused-ne0.false loaded
-          (c.origin_answer.ensures ∙ ap (λ (q : PointAnswer). direct.origin_answer q) c.point-answer.ensures) c.number-origin.ensures
+    (c.origin_answer.ensures ∙ ap (λ (q : PointAnswer). direct.origin_answer q) c.point-answer.ensures) c.number-origin.ensures

@@ -1,5 +1,4 @@
 -- `vdp_write_snapshot` meets its contract.
-use borrow.Author.Rules.{rules}
 use Rattle.birdcleft.proofs.Laws.{lengths, at_entry_lem, at-end}
 use Rattle.birdcleft.proofs.snapshots.vdp_write_snapshot.Goals as goal
 

@@ -1,13 +1,11 @@
 -- `draw_found` meets its contract.
-use Prim.Native.Nat.{◌-◌, ◌≤◌, ◌<◌}
+use Prim.Native.Nat.{◌-◌}
 use native.Mathlib.Omega.{arith}
 use mathlib.Core.Path.{◌≡◌, refl, ◌∙◌}
-use borrow.Author.Rules.{rules}
-use lib.ListN.{get_or, take, drop}
-use Rattle.sprites.specs.Pixels.{coincidence}
+use lib.ListN.{get_or}
 use Rattle.sprites.specs.Scanned.{no_sprite}
-use Rattle.sprites.proofs.Laws.Draw.{Over, over_none, over-one, one_lower, none-higher, line-long}
-use Rattle.blit.proofs.Laws.Meet.{near-columns, rows-coincide}
+use Rattle.sprites.proofs.Laws.Draw.{over_none, over-one, one_lower, none-higher}
+use Rattle.blit.proofs.Laws.Meet.{rows-coincide}
 use Rattle.blit.proofs.draw.draw_found.Goals as goal
 
 pub loop-k-init : goal.loop-k-init

@@ -1,13 +1,8 @@
 -- `draw_found` meets its contract.
-use Prim.Native.Nat.{◌-◌, ◌≤◌, ◌<◌}
-use native.Mathlib.Omega.{arith}
-use mathlib.Core.Path.{◌≡◌, refl, ◌∙◌}
-use borrow.Author.Rules.{rules}
-use lib.ListN.{get_or, take, drop}
+use Prim.Native.Nat.{◌≤◌}
+use lib.ListN.{take, drop}
 use Rattle.sprites.specs.Pixels.{coincidence}
-use Rattle.sprites.specs.Scanned.{no_sprite}
-use Rattle.sprites.proofs.Laws.Draw.{Over, over_none, over-one, one_lower, none-higher, line-long}
-use Rattle.blit.proofs.Laws.Meet.{near-columns, rows-coincide}
+use Rattle.sprites.proofs.Laws.Draw.{Over}
 use Rattle.blit.proofs.draw.draw_found.Given as goal
 
 abbrev pub invariant-loop-k : goal.invariant-loop-k

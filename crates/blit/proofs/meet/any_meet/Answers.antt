@@ -1,5 +1,4 @@
 -- `any_meet` meets its contract.
-use Prim.Native.Nat.{◌-◌, ◌≤◌}
 use native.Mathlib.Omega.{arith}
 use mathlib.Core.Path.{◌≡◌, sym, ap₂, ◌∙◌}
 use mathlib.Core.Bool.{false, ◌||◌}
@@ -26,7 +25,7 @@ loop-k-preserved c =
     let k = c.loop-k.k in
     let here : any_below k (λ i. places_meet a.firsts.now a.rows.now i k) ≡ false
     = elim c.if-overlaps_lower.branch [
-        then-overlaps_lower+else-meets_lower w ↦ sym w.meets_lower.ensures ∙ w.if-meets_lower.false
+      | then-overlaps_lower+else-meets_lower w ↦ sym w.meets_lower.ensures ∙ w.if-meets_lower.false
       | else-overlaps_lower w ↦ none-meets a.firsts.now a.rows.now k (sym c.overlaps_lower.ensures ∙ w.if-overlaps_lower.false)
     ] in
     (search rules, any-more k (λ j. any_below j (λ i. places_meet a.firsts.now a.rows.now i j)) ∙ ap₂ ◌||◌ c.loop-k.invariant.1 here)

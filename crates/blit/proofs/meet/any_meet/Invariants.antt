@@ -1,15 +1,9 @@
 -- `any_meet` meets its contract.
 use Prim.Native.Nat.{◌-◌, ◌≤◌}
-use native.Mathlib.Omega.{arith}
-use mathlib.Core.Path.{◌≡◌, sym, ap₂, ◌∙◌}
-use mathlib.Core.Bool.{false, ◌||◌}
-use mathlib.Core.Logic.{⊎_elim}
-use borrow.Author.Rules.{rules}
+use mathlib.Core.Path.{◌≡◌}
+use mathlib.Core.Bool.{false}
 use Rattle.chip.specs.Ranges.{any_below}
-use Rattle.chip.proofs.Laws.Ranges.{one_holds}
 use Rattle.blit.specs.Wide.{places_meet}
-use Rattle.blit.proofs.Laws.Meet.{any_none, any-more}
-use Rattle.blit.proofs.Laws.Columns.{none-meets}
 use Rattle.blit.proofs.meet.any_meet.Given as goal
 
 abbrev pub invariant-loop-k : goal.invariant-loop-k

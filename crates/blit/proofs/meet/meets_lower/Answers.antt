@@ -1,10 +1,7 @@
 -- `meets_lower` meets its contract.
-use Prim.Native.Nat.{◌-◌, ◌≤◌}
-use native.Mathlib.Omega.{arith}
-use mathlib.Core.Path.{◌≡◌, sym, ap₂, ◌∙◌}
+use mathlib.Core.Path.{sym, ap₂, ◌∙◌}
 use mathlib.Core.Bool.{◌||◌}
 use borrow.Author.Rules.{rules}
-use Rattle.chip.specs.Ranges.{any_below}
 use Rattle.blit.specs.Wide.{places_meet}
 use Rattle.blit.proofs.Laws.Meet.{any_none, any-more}
 use Rattle.blit.proofs.meet.meets_lower.Goals as goal

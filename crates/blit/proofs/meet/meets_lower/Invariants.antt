@@ -1,12 +1,8 @@
 -- `meets_lower` meets its contract.
 use Prim.Native.Nat.{◌-◌, ◌≤◌}
-use native.Mathlib.Omega.{arith}
-use mathlib.Core.Path.{◌≡◌, sym, ap₂, ◌∙◌}
-use mathlib.Core.Bool.{◌||◌}
-use borrow.Author.Rules.{rules}
+use mathlib.Core.Path.{◌≡◌}
 use Rattle.chip.specs.Ranges.{any_below}
 use Rattle.blit.specs.Wide.{places_meet}
-use Rattle.blit.proofs.Laws.Meet.{any_none, any-more}
 use Rattle.blit.proofs.meet.meets_lower.Given as goal
 
 abbrev pub invariant-loop-i : goal.invariant-loop-i

@@ -1,6 +1,5 @@
 -- `overlap` meets its contract.
 use native.Mathlib.Omega.{arith}
-use borrow.Author.Rules.{rules}
 use Rattle.blit.proofs.Laws.Columns.{from-left, from-right}
 use Rattle.blit.proofs.meet.overlap.Goals as goal
 

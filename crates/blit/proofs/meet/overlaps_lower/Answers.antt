@@ -1,11 +1,8 @@
 -- `overlaps_lower` meets its contract.
-use Prim.Native.Nat.{◌-◌, ◌≤◌}
-use native.Mathlib.Omega.{arith}
-use mathlib.Core.Path.{◌≡◌, sym, ap₂, ◌∙◌}
+use mathlib.Core.Path.{sym, ap₂, ◌∙◌}
 use mathlib.Core.Bool.{◌||◌}
 use lib.ListN.{get_or}
 use borrow.Author.Rules.{rules}
-use Rattle.chip.specs.Ranges.{any_below}
 use Rattle.blit.specs.Wide.{columns_overlap}
 use Rattle.blit.proofs.Laws.Meet.{any_none, any-more}
 use Rattle.blit.proofs.meet.overlaps_lower.Goals as goal

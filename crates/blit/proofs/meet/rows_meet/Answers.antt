@@ -5,7 +5,6 @@ use mathlib.Core.Path.{sym}
 use borrow.Author.Tests.{le-ltb}
 use Rattle.chip.proofs.Laws.Ranges.{none-holds}
 use Rattle.blit.proofs.Laws.Shifted.{rows-meet}
-use borrow.Author.Rules.{rules}
 use Rattle.blit.proofs.meet.rows_meet.Goals as goal
 
 pub returns-then-d-lt32 : goal.returns-then-d-lt32

@@ -6,7 +6,6 @@ use Rattle.chip.proofs.Laws.Ranges.{any_same}
 use Rattle.sprites.specs.Pixels.{reach}
 use Rattle.blit.specs.Wide.{shown_at, rows_meet}
 use Rattle.blit.proofs.Laws.Meet.{two-rows}
-use borrow.Author.Rules.{rules}
 use Rattle.blit.proofs.meet.two_meet.Goals as goal
 
 pub returns-then-f-g : goal.returns-then-f-g

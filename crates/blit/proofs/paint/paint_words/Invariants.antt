@@ -1,14 +1,9 @@
 -- `paint_words` meets its contract: the columns before j are painted, and what is left of the row stands at its left end.
-use Prim.Native.Nat.{◌+◌, ◌-◌, ◌*◌, ◌%◌, ◌^◌, ◌≤◌}
-use native.Mathlib.Omega.{arith}
-use mathlib.Core.Path.{◌≡◌, sym, ◌∙◌}
-use borrow.Author.Rules.{rules}
+use Prim.Native.Nat.{◌-◌, ◌*◌, ◌%◌, ◌^◌, ◌≤◌}
+use mathlib.Core.Path.{◌≡◌}
 use Rattle.planes.specs.Painted.{Painted}
-use Rattle.planes.proofs.Laws.Painted.{painted-none}
-use Rattle.sprites.specs.Shape.{side}
-use Rattle.sprites.proofs.Laws.Columns.{side-small}
 use Rattle.words.specs.Words.{byte_of}
-use Rattle.blit.proofs.Laws.Paint.{side-eights, left-more, row_over, painted-eight, painted-sprite}
+use Rattle.blit.proofs.Laws.Paint.{row_over}
 use Rattle.blit.proofs.paint.paint_words.Given as goal
 
 abbrev pub invariant-loop-j : goal.invariant-loop-j

@@ -3,7 +3,6 @@ use mathlib.Core.Path.{◌≡◌, sym, ◌∙◌}
 use mathlib.Core.Bool.{true, false}
 use Rattle.chip.specs.Modes.{magnified}
 use Rattle.blit.proofs.Laws.Wide.{wide, plain, twice}
-use borrow.Author.Rules.{rules}
 use Rattle.blit.proofs.wide.wide_row.Goals as goal
 
 pub returns-then-is_magnified : goal.returns-then-is_magnified

@@ -1,6 +1,5 @@
 -- `decode` meets its contract.
 use Rattle.chip.specs.Layout.{decoded}
-use borrow.Author.Rules.{rules}
 use Rattle.chip.proofs.layout.decode.Goals as goal
 
 pub returns : goal.returns

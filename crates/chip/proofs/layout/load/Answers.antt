@@ -1,7 +1,6 @@
 -- `load` meets its contract.
 use mathlib.Core.Path.{refl}
 use Rattle.chip.specs.Layout.{chip_of}
-use borrow.Author.Rules.{rules}
 use Rattle.chip.proofs.layout.load.Goals as goal
 
 pub returns : goal.returns

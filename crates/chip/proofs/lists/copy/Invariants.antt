@@ -1,9 +1,8 @@
 -- `copy`: the bytes before `i` are those of `from`.
 use Prim.Native.Nat.{◌≤◌, ◌-◌}
-use native.Mathlib.Omega.{arith}
-use mathlib.Core.Path.{◌≡◌, refl}
-use lib.ListN.{length, get_or, length-set}
-use Rattle.chip.proofs.Laws.Lists.{Filled, filled_none, filled_more, filled-all}
+use mathlib.Core.Path.{◌≡◌}
+use lib.ListN.{length, get_or}
+use Rattle.chip.proofs.Laws.Lists.{Filled}
 use Rattle.chip.proofs.lists.copy.Given as goal
 
 abbrev pub invariant-loop-i : goal.invariant-loop-i

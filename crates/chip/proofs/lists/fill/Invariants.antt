@@ -1,9 +1,8 @@
 -- `fill`: the bytes before `i` are the given one.
 use Prim.Native.Nat.{◌≤◌, ◌-◌}
-use native.Mathlib.Omega.{arith}
-use mathlib.Core.Path.{◌≡◌, refl}
-use lib.ListN.{length, length-set, length-replicate, get_or-replicate}
-use Rattle.chip.proofs.Laws.Lists.{Filled, filled_none, filled_more, filled-all}
+use mathlib.Core.Path.{◌≡◌}
+use lib.ListN.{length}
+use Rattle.chip.proofs.Laws.Lists.{Filled}
 use Rattle.chip.proofs.lists.fill.Given as goal
 
 abbrev pub invariant-loop-i : goal.invariant-loop-i

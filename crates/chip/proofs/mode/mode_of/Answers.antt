@@ -1,7 +1,5 @@
 -- `mode_of` meets its contract.
 use Rattle.chip.specs.Modes.{mode_of}
-use Rattle.chip.proofs.Laws.State.{taken_not, left_not}
-use borrow.Author.Rules.{rules}
 use mathlib.Core.Path.{sym, ◌∙◌}
 use Rattle.chip.proofs.mode.mode_of.Goals as goal
 

@@ -1,11 +1,8 @@
 -- `obeys_masks`: each register below `n` obeys its mask, and the first that does not decides.
-use Prim.Native.Nat.{◌≤◌, ◌-◌}
 use native.Mathlib.Omega.{arith}
 use native.Mathlib.Numerals.{add-one}
-use mathlib.Core.Path.{◌≡◌, refl, sym, ◌∙◌}
-use mathlib.Core.Bool.{true}
+use mathlib.Core.Path.{◌≡◌, sym, ◌∙◌}
 use borrow.Author.Tests.{eq-eqb, ne_eqb}
-use Rattle.chip.specs.Ranges.{all_below}
 use Rattle.chip.specs.State.{masked, obeys}
 use Rattle.chip.proofs.Laws.Ranges.{one-fails, and_both}
 use Rattle.chip.proofs.state.obeys_masks.Goals as goal
@@ -18,8 +15,7 @@ returns-then-keep-registers c =
     sym (one-fails 8 (obeys r) n (omega arith) (ne_eqb _ _ (λ e. c.if-keep-registers.true (c.keep.ensures ∙ e))))
 
 pub loop-n-preserved : goal.loop-n-preserved
-loop-n-preserved c =
-    (
+loop-n-preserved c = (
   omega arith,
   rw add-one
       (and_both c.loop-n.invariant.1 (eq-eqb _ _ (sym c.keep.ensures ∙ c.if-keep-registers.false))),

@@ -1,13 +1,9 @@
 -- `obeys_masks`: each register below `n` obeys its mask, and the first that does not decides.
 use Prim.Native.Nat.{◌≤◌, ◌-◌}
-use native.Mathlib.Omega.{arith}
-use native.Mathlib.Numerals.{add-one}
-use mathlib.Core.Path.{◌≡◌, refl, sym, ◌∙◌}
+use mathlib.Core.Path.{◌≡◌}
 use mathlib.Core.Bool.{true}
-use borrow.Author.Tests.{eq-eqb, ne_eqb}
 use Rattle.chip.specs.Ranges.{all_below}
-use Rattle.chip.specs.State.{masked, obeys}
-use Rattle.chip.proofs.Laws.Ranges.{one-fails, and_both}
+use Rattle.chip.specs.State.{obeys}
 use Rattle.chip.proofs.state.obeys_masks.Given as goal
 
 abbrev pub invariant-loop-n : goal.invariant-loop-n

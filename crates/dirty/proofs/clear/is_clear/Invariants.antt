@@ -1,14 +1,9 @@
 -- `is_clear`: the joined bytes are 0 where each of them is.
-use Prim.Native.Nat.{ℕ, ◌≤◌, ◌-◌}
-use native.Mathlib.Numerals.{add-one}
-use native.Mathlib.Omega.{arith}
-use mathlib.Core.Path.{◌≡◌, refl, ap, ◌∙◌}
-use mathlib.Core.Bool.{Bool, ◌&&◌}
+use Prim.Native.Nat.{◌≤◌, ◌-◌}
+use mathlib.Core.Path.{◌≡◌}
 use lib.Dec.{eqb}
 use lib.ListN.{length, get_or}
 use Rattle.chip.specs.Ranges.{all_below}
-use Rattle.dirty.specs.Clear.{is_clear}
-use Rattle.chip.proofs.Laws.Bits.{joined-zero}
 use Rattle.dirty.proofs.clear.is_clear.Given as goal
 
 abbrev pub invariant-loop-i : goal.invariant-loop-i

@@ -1,14 +1,9 @@
 -- `joined` meets its contract.
-use Prim.Native.Nat.{ℕ, ◌+◌, ◌-◌, ◌≤◌, ◌<◌, zero-le}
-use native.Mathlib.Numerals.{add-one}
-use native.Mathlib.Omega.{arith}
-use mathlib.Core.Path.{◌≡◌, ap, ◌∙◌}
-use mathlib.Core.Bool.{Bool, ◌||◌}
+use Prim.Native.Nat.{◌+◌, ◌-◌, ◌≤◌}
 use lib.ListN.{get_or}
 use Rattle.chip.specs.Bits.{bit}
 use Rattle.chip.specs.Ranges.{any_below}
 use Rattle.dirty.specs.Plane.{ByteBits}
-use Rattle.chip.proofs.Laws.Bits.{bit-zero, bit-or}
 use Rattle.dirty.proofs.joined.joined.Given as goal
 
 abbrev pub invariant-loop-i : goal.invariant-loop-i

@@ -1,11 +1,9 @@
 -- `shared_dirty` meets its contract.
-use Prim.Native.Nat.{ℕ, ◌+◌, ◌-◌, ◌*◌, ◌/◌, ◌≤◌, ◌<◌, zero-le}
+use Prim.Native.Nat.{zero-le}
 use native.Mathlib.Numerals.{add-one}
 use native.Mathlib.Omega.{arith}
-use mathlib.Core.Path.{◌≡◌, refl, ap, ap₂, ◌∙◌}
+use mathlib.Core.Path.{refl, ap₂}
 use mathlib.Core.Bool.{◌||◌}
-use lib.ListN.{get_or}
-use Rattle.chip.specs.Map.{is_dirty}
 use Rattle.chip.specs.Ranges.{any_below}
 use Rattle.dirty.proofs.joined.shared_dirty.Goals as goal
 

@@ -1,7 +1,6 @@
 -- `attributes_from` meets its contract.
 use native.Mathlib.Omega.{arith}
 use lib.Dec.{lit<}
-use borrow.Author.Rules.{rules}
 use Rattle.chip.proofs.Laws.Tables.{at-most-mask}
 use Rattle.dirty.proofs.marks.attributes_from.Goals as goal
 

@@ -1,8 +1,6 @@
 -- `marks_of` meets its contract.
-use Prim.Native.Nat.{◌-◌, ◌≤◌}
 use native.Mathlib.Omega.{arith}
-use borrow.Author.Rules.{rules}
-use Rattle.dirty.proofs.Laws.Marks.{MarkedBelow, marks-more}
+use Rattle.dirty.proofs.Laws.Marks.{marks-more}
 use Rattle.dirty.proofs.marks.marks_of.Goals as goal
 
 pub loop-i-preserved : goal.loop-i-preserved

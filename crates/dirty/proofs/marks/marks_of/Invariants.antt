@@ -1,8 +1,6 @@
 -- `marks_of` meets its contract.
 use Prim.Native.Nat.{◌-◌, ◌≤◌}
-use native.Mathlib.Omega.{arith}
-use borrow.Author.Rules.{rules}
-use Rattle.dirty.proofs.Laws.Marks.{MarkedBelow, marks-more}
+use Rattle.dirty.proofs.Laws.Marks.{MarkedBelow}
 use Rattle.dirty.proofs.marks.marks_of.Given as goal
 
 abbrev pub invariant-loop-i : goal.invariant-loop-i

@@ -1,5 +1,4 @@
 -- `patterns_clear` meets its contract.
-use borrow.Author.Rules.{rules}
 use Rattle.dirty.proofs.Laws.Marks.{clean-part}
 use Rattle.dirty.proofs.marks.patterns_clear.Goals as goal
 

@@ -1,16 +1,9 @@
 -- `ys_clear` meets its contract.
-use Prim.Native.Nat.{ℕ, ◌+◌, ◌-◌, ◌*◌, ◌/◌, ◌%◌, ◌≤◌, ◌<◌}
-use native.Mathlib.Omega.{arith}
-use mathlib.Core.Path.{◌≡◌, ◌∙◌}
+use Prim.Native.Nat.{ℕ, ◌+◌, ◌-◌, ◌≤◌, ◌<◌}
+use mathlib.Core.Path.{◌≡◌}
 use mathlib.Core.Bool.{false}
-use borrow.Author.Count.{below_more}
-use borrow.Author.Tests.{eqb-true}
-use lib.Bits.{bit_or}
-use lib.Dec.{lit<}
 use lib.ListN.{get_or}
 use Rattle.chip.specs.Bits.{bit}
-use Rattle.dirty.proofs.Laws.Joined.{first-lacks, second-lacks, apart_from}
-use Rattle.dirty.proofs.Laws.Marks.{attribute-bit, y-bits}
 use Rattle.dirty.proofs.marks.ys_clear.Given as goal
 
 abbrev pub invariant-loop-i : goal.invariant-loop-i

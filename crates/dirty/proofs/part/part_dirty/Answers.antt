@@ -7,7 +7,6 @@ use lib.ListN.{take, drop}
 use Rattle.chip.specs.State.{Bytes}
 use Rattle.dirty.specs.Clear.{is_clear}
 use Rattle.dirty.proofs.Laws.Parts.{part-dirty}
-use borrow.Author.Rules.{rules}
 use Rattle.dirty.proofs.part.part_dirty.Goals as goal
 
 pub returns : goal.returns

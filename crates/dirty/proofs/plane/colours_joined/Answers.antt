@@ -2,7 +2,7 @@
 use Prim.Native.Nat.{ℕ, ◌+◌, ◌*◌, ◌/◌, ◌≤◌, ◌<◌}
 use native.Mathlib.Omega.{arith}
 use mathlib.Core.Path.{◌≡◌, refl, sym, ◌∙◌}
-use mathlib.Core.Bool.{true, false}
+use mathlib.Core.Bool.{false}
 use Rattle.chip.specs.Bits.{bit}
 use Rattle.chip.specs.Ranges.{any_below}
 use Rattle.chip.specs.declared.mode.Mode.TheVariants.{GraphicsI, GraphicsII}
@@ -12,7 +12,6 @@ use Rattle.dirty.specs.Plane.{colours_dirty}
 use Rattle.chip.proofs.Laws.Bits.{bit-zero, full-bit}
 use Rattle.dirty.proofs.Laws.Plane.{joined-table, colour-at, shared_at}
 use Rattle.dirty.proofs.Laws.Tables.{row_inside, colours-inside}
-use borrow.Author.Rules.{rules}
 use Rattle.dirty.proofs.plane.colours_joined.Goals as goal
 
 -- in a mode without a colour table

@@ -5,7 +5,6 @@ use mathlib.Core.Path.{sym, ◌∙◌}
 use Rattle.chip.specs.State.{Bytes}
 use Rattle.chip.proofs.Laws.Bits.{bit-zero}
 use Rattle.dirty.proofs.Laws.Plane.{no-colour}
-use borrow.Author.Rules.{rules}
 use Rattle.dirty.proofs.plane.colours_of.Goals as goal
 
 pub returns-else-dirty : goal.returns-else-dirty

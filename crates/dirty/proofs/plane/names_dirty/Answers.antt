@@ -8,11 +8,10 @@ use Rattle.chip.proofs.Laws.Ranges.{any_same}
 use Rattle.planes.specs.Cells.{cells_in, name_address}
 use Rattle.dirty.proofs.Laws.Plane.{name-at}
 use Rattle.dirty.proofs.Laws.Tables.{row_inside}
-use borrow.Author.Rules.{rules}
 use Rattle.dirty.proofs.plane.names_dirty.Goals as goal
 
 pub part_dirty-requires : goal.part_dirty-requires
-part_dirty-requires c =     omega (arith, c.names_from.ensures, c.names_long.ensures, row_inside c.args.r c.requires.0 c.args.mode c.args.row c.requires.2)
+part_dirty-requires c = omega (arith, c.names_from.ensures, c.names_long.ensures, row_inside c.args.r c.requires.0 c.args.mode c.args.row c.requires.2)
 
 pub returns : goal.returns
 returns c =

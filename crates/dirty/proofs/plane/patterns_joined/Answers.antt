@@ -9,7 +9,6 @@ use Rattle.planes.specs.Cells.{cells_in, pattern_address}
 use Rattle.dirty.specs.Plane.{byte_shown}
 use Rattle.dirty.proofs.Laws.Plane.{joined-table, pattern-at}
 use Rattle.dirty.proofs.Laws.Tables.{shown-small, row_inside, third-inside}
-use borrow.Author.Rules.{rules}
 use Rattle.dirty.proofs.plane.patterns_joined.Goals as goal
 
 pub joined-requires : goal.joined-requires

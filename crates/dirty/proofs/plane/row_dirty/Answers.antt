@@ -7,7 +7,6 @@ use Rattle.planes.specs.Cells.{plane_of}
 use Rattle.dirty.specs.Plane.{patterns_dirty, colours_dirty}
 use Rattle.chip.proofs.Laws.Bits.{bit-or, full-bit}
 use Rattle.dirty.proofs.Laws.Plane.{plane-dirty}
-use borrow.Author.Rules.{rules}
 use Rattle.dirty.proofs.plane.row_dirty.Goals as goal
 
 pub returns-then-names_dirty : goal.returns-then-names_dirty

@@ -1,8 +1,6 @@
 -- `dirty_rows` meets its contract.
 use mathlib.Core.Path.{◌≡◌, sym, ◌∙◌}
 use mathlib.Core.Bool.{true, false}
-use borrow.Author.Rules.{rules}
-use borrow.Author.Tests.{not-true, not-false}
 use Rattle.chip.specs.Modes.{mode_of}
 use Rattle.fetches.specs.Fetch.{fetched, any_dirty}
 use Rattle.planes.specs.Cells.{plane_of}

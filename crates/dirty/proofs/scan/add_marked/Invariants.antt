@@ -1,11 +1,7 @@
 -- `add_marked` meets its contract.
 use Prim.Native.Nat.{◌+◌, ◌-◌, ◌*◌}
-use native.Mathlib.Omega.{arith}
-use mathlib.Core.Path.{sym, ◌∙◌}
-use borrow.Author.Rules.{rules}
-use Rattle.chip.proofs.Laws.Ranges.{and_left, and_right}
 use Rattle.dirty.specs.Marks.{scan_dirty}
-use Rattle.dirty.proofs.Laws.Added.{Rows, rows_start, rows_more}
+use Rattle.dirty.proofs.Laws.Added.{Rows}
 use Rattle.dirty.proofs.scan.add_marked.Given as goal
 
 abbrev pub invariant-loop-row : goal.invariant-loop-row

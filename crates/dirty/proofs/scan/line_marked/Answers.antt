@@ -1,7 +1,6 @@
 -- `line_marked` meets its contract.
 use native.Mathlib.Omega.{arith}
 use mathlib.Core.Path.{sym}
-use borrow.Author.Rules.{rules}
 use Rattle.dirty.proofs.Laws.Scan.{unmarked}
 use Rattle.dirty.proofs.scan.line_marked.Goals as goal
 

@@ -1,11 +1,8 @@
 -- `row_marked` meets its contract.
-use Prim.Native.Nat.{◌+◌, ◌-◌, ◌*◌}
-use native.Mathlib.Omega.{arith}
-use mathlib.Core.Path.{◌≡◌, sym, ap, ◌∙◌}
+use mathlib.Core.Path.{ap, ◌∙◌}
 use Rattle.chip.specs.Bits.{bit}
 use Rattle.chip.proofs.Laws.Bits.{full-bit}
-use Rattle.dirty.specs.Marks.{scan_dirty}
-use Rattle.dirty.proofs.Laws.Added.{Bits, bits-start, bits-set, bits-same}
+use Rattle.dirty.proofs.Laws.Added.{bits-set, bits-same}
 use Rattle.dirty.proofs.scan.row_marked.Goals as goal
 use Rattle.dirty.proofs.scan.row_marked.Goals.{then-line_marked, else-line_marked}
 
@@ -15,6 +12,6 @@ returns-then-before-eq255 c = λ k h. let set = ap (bit k) c.if-before-eq255.tru
 pub loop-k-preserved : goal.loop-k-preserved
 loop-k-preserved c =
     elim c.if-line_marked.branch [
-        then-line_marked w ↦ rw (w.byte-is ∙ w.set_bit-byte.ensures) (bits-set c.loop-k.invariant c.loop-k-test.true c.line_marked.result c.line_marked.ensures w.if-line_marked.true)
+      | then-line_marked w ↦ rw (w.byte-is ∙ w.set_bit-byte.ensures) (bits-set c.loop-k.invariant c.loop-k-test.true c.line_marked.result c.line_marked.ensures w.if-line_marked.true)
       | else-line_marked w ↦ rw w.byte-is (bits-same c.loop-k.invariant c.loop-k-test.true c.line_marked.result c.line_marked.ensures w.if-line_marked.false)
     ]

@@ -1,6 +1,5 @@
 -- `sprites_clear` meets its contract.
 use mathlib.Core.Bool.{not}
-use borrow.Author.Rules.{rules}
 use Rattle.chip.proofs.Laws.Ranges.{and_left, and_right}
 use Rattle.dirty.proofs.Laws.Marks.{clean-part}
 use Rattle.dirty.proofs.Laws.Scan.{all-clear}

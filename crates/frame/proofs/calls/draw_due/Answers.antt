@@ -3,11 +3,10 @@ use Prim.Native.Nat.{ℕ}
 use mathlib.Core.Path.{ap, ◌∙◌}
 use mathlib.Core.Bool.{false}
 use lib.ListN.{replicate}
-use borrow.Author.Rules.{rules}
 use Rattle.chip.specs.State.{with_status, with_redraw}
 use Rattle.chip.specs.declared.refusal.Refusal.{Refusal}
 use Rattle.scanline.specs.Notes.{status_through}
-use Rattle.frame.proofs.Laws.Calls.{accepted-shows, refused-answer, refused-list, was-accepted, accepted-answer, accepted-list}
+use Rattle.frame.proofs.Laws.Calls.{accepted-shows, was-accepted, accepted-list}
 use Rattle.frame.proofs.calls.draw_due.Goals as goal
 
 pub redraw_lines-redrawn-requires : goal.redraw_lines-redrawn-requires

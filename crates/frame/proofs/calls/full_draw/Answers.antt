@@ -9,7 +9,6 @@ use Rattle.chip.specs.declared.refusal.Refusal.{Refusal}
 use Rattle.frame.specs.Draw.{drawn_state}
 use Rattle.frame.specs.Calls.{draw_refusal}
 use Rattle.frame.proofs.Laws.Clean.{clean-while-redraw, refreshed-frame, refreshed-notes}
-use borrow.Author.Rules.{rules}
 use Rattle.frame.proofs.calls.full_draw.Goals as goal
 
 -- accepted or refused, no number is answered

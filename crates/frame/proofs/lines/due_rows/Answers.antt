@@ -1,5 +1,5 @@
 -- `due_rows` meets its contract.
-use mathlib.Core.Path.{◌≡◌, refl, sym, ap, ◌∙◌}
+use mathlib.Core.Path.{sym, ◌∙◌}
 use mathlib.Core.Bool.{true, false}
 use Rattle.chip.proofs.Laws.Bits.{bit-zero, full-bit}
 use Rattle.fetches.specs.Fetch.{fetched}
@@ -7,7 +7,6 @@ use Rattle.scanline.specs.Line.{line_of}
 use Rattle.dirty.proofs.Laws.Clear.{none-dirty}
 use Rattle.frame.specs.Due.{due}
 use Rattle.frame.proofs.Laws.Bits.{all-rows}
-use borrow.Author.Rules.{rules}
 use Rattle.frame.proofs.lines.due_rows.Goals as goal
 
 pub returns-then-redraw : goal.returns-then-redraw

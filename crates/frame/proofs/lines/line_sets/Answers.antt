@@ -1,11 +1,10 @@
 -- `line_sets` meets its contract.
 use Prim.Native.Nat.{ℕ}
-use mathlib.Core.Path.{◌≡◌, refl, sym, ap, ◌∙◌}
+use mathlib.Core.Path.{◌≡◌, sym, ◌∙◌}
 use lib.ListN.{length-replicate, get_or-replicate}
 use Rattle.chip.specs.Modes.{mode_of}
 use Rattle.chip.proofs.Laws.Refusals.{differ}
 use Rattle.scanline.specs.Line.{has_sprites}
-use borrow.Author.Rules.{rules}
 use Rattle.frame.proofs.lines.line_sets.Goals as goal
 
 pub returns : goal.returns

@@ -11,7 +11,6 @@ use Rattle.frame.specs.Due.{due, new_line}
 use Rattle.frame.specs.Rows.{due_bit, line_by}
 use Rattle.frame.proofs.Laws.Lines.{end_same}
 use Rattle.frame.proofs.Laws.Bits.{row-bit, no_row}
-use borrow.Author.Rules.{rules}
 use Rattle.frame.proofs.lines.redraw_lines.Goals as goal
 
 pub returns-then-is_clear-clause-value : goal.returns-then-is_clear-clause-value

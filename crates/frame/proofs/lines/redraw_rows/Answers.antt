@@ -1,16 +1,14 @@
 -- `redraw_rows`: the lines of the rows before `row` are redrawn if due, and counted.
-use Prim.Native.Nat.{ℕ, ◌≤◌, ◌<◌, ◌-◌, ◌*◌, ◌+◌}
+use Prim.Native.Nat.{ℕ, ◌<◌, ◌-◌, ◌*◌, ◌+◌}
 use native.Mathlib.Omega.{arith}
-use mathlib.Core.Path.{◌≡◌, refl, ap, subst, ◌∙◌}
-use mathlib.Core.List.{List}
-use lib.ListN.{length, get_or, take, drop}
+use mathlib.Core.Path.{◌≡◌, refl, subst, ◌∙◌}
+use lib.ListN.{length, get_or}
 use Rattle.chip.specs.Bits.{bit}
 use Rattle.redraw.proofs.Laws.Redraw.{Redrawn, redrawn-none, redrawn-long, redrawn-all}
 use Rattle.frame.specs.Rows.{due_bit, line_by, note_by_rows}
 use Rattle.frame.proofs.Laws.Lines.{count-le}
 use Rattle.frame.proofs.Laws.Rows.{rest-as-lent, redrawn-row}
 use Rattle.frame.proofs.Laws.Step.{wide_by, step_lines, step-notes, step_count}
-use borrow.Author.Rules.{rules}
 use Rattle.frame.proofs.lines.redraw_rows.Goals as goal
 
 pub loop-row-init : goal.loop-row-init

@@ -1,8 +1,8 @@
 -- `first_fifth`: the first fifth sprite is that of the notes to come.
-use Prim.Native.Nat.{ℕ, ◌%◌, ◌≤◌, ◌-◌}
+use Prim.Native.Nat.{ℕ, ◌%◌}
 use native.Mathlib.Numerals.{add-one}
 use native.Mathlib.Omega.{arith}
-use mathlib.Core.Path.{◌≡◌, refl, sym, ap, ◌∙◌}
+use mathlib.Core.Path.{◌≡◌, sym, ap, ◌∙◌}
 use borrow.Author.Tests.{lt-ltb, le-ltb}
 use lib.ListN.{length, get_or, drop}
 use lib.Seq.{drop-length}

@@ -1,13 +1,8 @@
 -- `first_fifth`: the first fifth sprite is that of the notes to come.
-use Prim.Native.Nat.{ℕ, ◌%◌, ◌≤◌, ◌-◌}
-use native.Mathlib.Numerals.{add-one}
-use native.Mathlib.Omega.{arith}
-use mathlib.Core.Path.{◌≡◌, refl, sym, ap, ◌∙◌}
-use borrow.Author.Tests.{lt-ltb, le-ltb}
-use lib.ListN.{length, get_or, drop}
-use lib.Seq.{drop-length}
+use Prim.Native.Nat.{◌≤◌, ◌-◌}
+use mathlib.Core.Path.{◌≡◌}
+use lib.ListN.{length, drop}
 use Rattle.frame.specs.Status.{first_fifth}
-use Rattle.frame.proofs.Laws.Status.{one-passed, one_found}
 use Rattle.frame.proofs.status.first_fifth.Given as goal
 
 abbrev pub invariant-loop-l : goal.invariant-loop-l

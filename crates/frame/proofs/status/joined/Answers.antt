@@ -1,8 +1,8 @@
 -- `joined`: bits 5 and 6 of the notes so far, with the notes to come, tell what all notes do.
-use Prim.Native.Nat.{ℕ, ◌≤◌, ◌-◌}
+use Prim.Native.Nat.{ℕ}
 use native.Mathlib.Numerals.{add-one}
 use native.Mathlib.Omega.{arith}
-use mathlib.Core.Path.{◌≡◌, refl, sym, ap, ◌∙◌}
+use mathlib.Core.Path.{◌≡◌, sym, ap, ◌∙◌}
 use mathlib.Core.Bool.{Bool, ◌||◌}
 use mathlib.Core.List.{List, []}
 use lib.ListN.{length, drop}
@@ -11,7 +11,6 @@ use Rattle.chip.specs.Bits.{bit}
 use Rattle.chip.proofs.Laws.Ranges.{or-false}
 use Rattle.frame.specs.Status.{has_fifth, some}
 use Rattle.frame.proofs.Laws.Status.{fifth-told, met-told, one-joined}
-use Rattle.frame.proofs.status.joined.Invariants.{Told}
 use Rattle.frame.proofs.status.joined.Goals as goal
 
 pub loop-i-preserved : goal.loop-i-preserved

@@ -1,16 +1,11 @@
 -- `joined`: bits 5 and 6 of the notes so far, with the notes to come, tell what all notes do.
 use Prim.Native.Nat.{ℕ, ◌≤◌, ◌-◌}
-use native.Mathlib.Numerals.{add-one}
-use native.Mathlib.Omega.{arith}
-use mathlib.Core.Path.{◌≡◌, refl, sym, ap, ◌∙◌}
+use mathlib.Core.Path.{◌≡◌}
 use mathlib.Core.Bool.{Bool, ◌||◌}
-use mathlib.Core.List.{List, []}
+use mathlib.Core.List.{List}
 use lib.ListN.{length, drop}
-use lib.Seq.{drop-length}
 use Rattle.chip.specs.Bits.{bit}
-use Rattle.chip.proofs.Laws.Ranges.{or-false}
 use Rattle.frame.specs.Status.{has_fifth, some}
-use Rattle.frame.proofs.Laws.Status.{fifth-told, met-told, one-joined}
 use Rattle.frame.proofs.status.joined.Given as goal
 
 -- what bit k tells of the notes so far, or p of one to come, is what p tells of all

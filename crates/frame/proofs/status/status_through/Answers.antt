@@ -4,7 +4,6 @@ use native.Mathlib.Omega.{arith}
 use mathlib.Core.Path.{sym, ap, ◌∙◌}
 use mathlib.Core.Bool.{Bool, ◌&&◌}
 use mathlib.Core.Logic.{inl, inr}
-use borrow.Author.Rules.{rules}
 use lib.Dec.{ltb}
 use Rattle.frame.proofs.Laws.Status.{fifth-le, by-one-note}
 use Rattle.frame.proofs.status.status_through.Goals as goal
@@ -29,6 +28,6 @@ returns c =
     (omega arith)
     c.joined-any.ensures
     (elim c.if-bit-status.branch [
-        then-bit-status w ↦ inl (sym test ∙ w.if-bit-status.true, w.fifth-is ∙ w.first_fifth-fifth.ensures)
+      | then-bit-status w ↦ inl (sym test ∙ w.if-bit-status.true, w.fifth-is ∙ w.first_fifth-fifth.ensures)
       | else-bit-status w ↦ inr (sym test ∙ w.if-bit-status.false, w.fifth-is)
     ])

@@ -1,9 +1,5 @@
 -- `colour_address` meets its contract.
-use native.Mathlib.Omega.{arith}
-use lib.Dec.{lit<}
-use Rattle.chip.proofs.Laws.Tables.{at-most-mask}
 use Rattle.planes.specs.Cells.{colour_address}
-use borrow.Author.Rules.{rules}
 use Rattle.planes.proofs.address.colour_address.Goals as goal
 
 pub returns-in-Blank : goal.returns-in-Blank

@@ -3,15 +3,12 @@ use Prim.Native.Nat.{ℕ, ◌<◌}
 use native.Mathlib.Omega.{arith}
 use mathlib.Core.Path.{◌≡◌, refl, ap, ◌∙◌}
 use mathlib.Core.Bool.{true}
-use lib.Dec.{lit<}
 use lib.ListN.{get_or}
-use Rattle.chip.proofs.Laws.State.{taken_not, left_not}
 use Rattle.planes.specs.Addresses.{addresses_at}
 use Rattle.planes.specs.Cells.{name_address, pattern_address, colour_address}
 use Rattle.planes.specs.Plane.{in_cells, cell_at}
 use Rattle.planes.proofs.Laws.Cells.{name-inside, pattern-inside, colours-inside}
 use Rattle.planes.proofs.Laws.Column.{cell-one}
-use borrow.Author.Rules.{rules}
 use mathlib.Core.Path.{sym}
 use Rattle.planes.proofs.addresses.addresses_at.Goals as goal
 
@@ -41,12 +38,12 @@ returns-clause-value c =
     let patterns = c.pattern_address-pattern.ensures in
     let colours = c.colour_address-colours.ensures in
     rw (held)
-          (λ i.
-          record {
-            name = at i;
-            pattern = (patterns ∙ ap (λ (p : ℕ). pattern_address a.mode a.r a.l (get_or a.vram.now p 0)) at) i;
-            colours = (colours ∙ ap (λ (p : ℕ). colour_address a.mode a.r a.l (get_or a.vram.now p 0)) at) i;
-          })
+    (λ i.
+    record {
+      name = at i;
+      pattern = (patterns ∙ ap (λ (p : ℕ). pattern_address a.mode a.r a.l (get_or a.vram.now p 0)) at) i;
+      colours = (colours ∙ ap (λ (p : ℕ). colour_address a.mode a.r a.l (get_or a.vram.now p 0)) at) i;
+    })
 
 pub returns-clause-name_bound : goal.returns-clause-name_bound
 unfolding addresses_at

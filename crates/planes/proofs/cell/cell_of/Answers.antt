@@ -4,7 +4,6 @@ use native.Mathlib.Omega.{arith}
 use Rattle.fetches.specs.Fetch.{value}
 use Rattle.planes.specs.Cells.{cell_of}
 use Rattle.planes.proofs.Laws.Cells.{name-inside}
-use borrow.Author.Rules.{rules}
 use Rattle.planes.proofs.cell.cell_of.Goals as goal
 
 pub bounds-vram-name_address : goal.bounds-vram-name_address

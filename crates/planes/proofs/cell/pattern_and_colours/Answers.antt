@@ -3,7 +3,6 @@ use Prim.Native.Nat.{◌<◌}
 use native.Mathlib.Omega.{arith}
 use Rattle.fetches.specs.Fetch.{value}
 use Rattle.planes.proofs.Laws.Cells.{pattern-inside, colours-inside}
-use borrow.Author.Rules.{rules}
 use Rattle.planes.proofs.cell.pattern_and_colours.Goals as goal
 
 pub bounds-vram-pattern_address : goal.bounds-vram-pattern_address

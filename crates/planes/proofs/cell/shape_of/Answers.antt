@@ -4,7 +4,6 @@ use native.Mathlib.Omega.{arith}
 use Rattle.fetches.specs.Fetch.{value}
 use Rattle.planes.specs.Cells.{shape_of}
 use Rattle.planes.proofs.Laws.Cells.{pattern-inside}
-use borrow.Author.Rules.{rules}
 use Rattle.planes.proofs.cell.shape_of.Goals as goal
 
 pub bounds-vram-pattern_address : goal.bounds-vram-pattern_address

@@ -1,13 +1,10 @@
 -- `text_place` meets its contract.
-use Prim.Native.Nat.{ℕ, zero, suc, ◌+◌, ◌*◌, ◌/◌, ◌^◌, ◌≤◌, ◌<◌}
-use native.Mathlib.Nat.{not-suc-le-zero, pow-zero, pow-suc}
+use Prim.Native.Nat.{◌*◌, ◌/◌, ◌≤◌, ◌<◌}
 use native.Mathlib.Omega.{arith}
-use mathlib.Core.Path.{◌≡◌, refl, ap₂, ◌∙◌}
+use mathlib.Core.Path.{◌≡◌, refl}
 use Rattle.chip.specs.declared.mode.Mode.TheVariants.{Text}
-use Rattle.planes.specs.Counted.{Counted}
 use Rattle.planes.proofs.Laws.Column.{from-margin, before-end}
-use Rattle.planes.proofs.Counted.{counted}
-use Rattle.planes.proofs.column.text_place.Invariants.{Power, Counting, halved}
+use Rattle.planes.proofs.column.text_place.Invariants.{Power, halved}
 use Rattle.planes.proofs.column.text_place.Goals as goal
 
 pub loop-cells-init : goal.loop-cells-init

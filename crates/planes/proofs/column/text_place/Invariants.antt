@@ -2,11 +2,7 @@
 use Prim.Native.Nat.{ℕ, zero, suc, ◌+◌, ◌*◌, ◌/◌, ◌^◌, ◌≤◌, ◌<◌}
 use native.Mathlib.Nat.{not-suc-le-zero, pow-zero, pow-suc}
 use native.Mathlib.Omega.{arith}
-use mathlib.Core.Path.{◌≡◌, refl, ap₂, ◌∙◌}
-use Rattle.chip.specs.declared.mode.Mode.TheVariants.{Text}
-use Rattle.planes.specs.Counted.{Counted}
-use Rattle.planes.proofs.Laws.Column.{from-margin, before-end}
-use Rattle.planes.proofs.Counted.{counted}
+use mathlib.Core.Path.{◌≡◌, ◌∙◌}
 use Rattle.planes.proofs.column.text_place.Given as goal
 
 pub record Power (n : ℕ) : Type 0 where

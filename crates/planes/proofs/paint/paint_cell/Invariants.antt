@@ -1,13 +1,8 @@
 -- `paint_cell` meets its contract.
 use Prim.Native.Nat.{◌≤◌, ◌-◌}
-use native.Mathlib.Omega.{arith}
-use mathlib.Core.Path.{◌≡◌}
 use mathlib.Core.Bool.{cond}
-use borrow.Author.Rules.{rules}
-use lib.ListN.{length}
 use Rattle.chip.specs.Bits.{bit}
 use Rattle.planes.specs.Painted.{Painted}
-use Rattle.planes.proofs.Laws.Painted.{painted-none, painted-more}
 use Rattle.planes.proofs.paint.paint_cell.Given as goal
 
 abbrev pub invariant-loop-k : goal.invariant-loop-k

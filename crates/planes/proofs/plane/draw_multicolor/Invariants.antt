@@ -1,13 +1,10 @@
 -- `draw_multicolor` meets its contract.
-use Prim.Native.Nat.{◌+◌, ◌*◌, ◌-◌, ◌≤◌, ◌<◌, zero-le}
-use native.Mathlib.Omega.{arith}
-use mathlib.Core.Path.{◌≡◌, refl}
+use Prim.Native.Nat.{◌*◌, ◌-◌, ◌≤◌}
 use mathlib.Core.List.{[]}
-use borrow.Author.Rules.{rules}
 use Rattle.chip.specs.declared.mode.Mode.TheVariants.{Multicolor}
 use Rattle.planes.specs.Pixel.{behind_planes, pixel_of}
 use Rattle.planes.proofs.Laws.Painted.{Shown}
-use Rattle.planes.proofs.Laws.Plane.{by_plane, shown-none, shown-cell, shown-plane}
+use Rattle.planes.proofs.Laws.Plane.{by_plane}
 use Rattle.planes.proofs.plane.draw_multicolor.Given as goal
 
 abbrev pub invariant-loop-i : goal.invariant-loop-i

@@ -1,16 +1,11 @@
 -- `draw_plane` meets its contract.
-use Prim.Native.Nat.{ℕ, ◌+◌, ◌*◌, ◌-◌, ◌≤◌, ◌<◌, zero-le}
-use native.Mathlib.Nat.{zero-mul, add-zero, suc-mul}
-use native.Mathlib.Numerals.{add-one}
-use native.Mathlib.Omega.{arith}
-use mathlib.Core.Path.{◌≡◌, ap, ◌∙◌}
+use Prim.Native.Nat.{◌+◌, ◌*◌, ◌-◌, ◌≤◌}
+use mathlib.Core.Path.{◌≡◌}
 use mathlib.Core.List.{[]}
-use borrow.Author.Rules.{rules}
 use Rattle.planes.specs.Cells.{cells_in, cell_width, margin}
 use Rattle.planes.specs.Pixel.{behind_planes, pixel_of}
-use Rattle.planes.proofs.Laws.Cells.{run-within, eight-or-six, multicolor-alone, cells-few}
 use Rattle.planes.proofs.Laws.Painted.{Shown}
-use Rattle.planes.proofs.Laws.Plane.{by_plane, shown-none, shown-cell, shown-plane}
+use Rattle.planes.proofs.Laws.Plane.{by_plane}
 use Rattle.planes.proofs.plane.draw_plane.Given as goal
 
 abbrev pub invariant-loop-i : goal.invariant-loop-i

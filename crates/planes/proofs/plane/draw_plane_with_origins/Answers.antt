@@ -1,19 +1,16 @@
 -- `draw_plane_with_origins` meets its contract.
-use Prim.Native.Nat.{ℕ, ◌+◌, ◌*◌, ◌-◌, ◌≤◌, ◌<◌, zero-le}
+use Prim.Native.Nat.{ℕ, ◌+◌, ◌*◌, ◌<◌, zero-le}
 use native.Mathlib.Nat.{zero-mul, add-zero, suc-mul}
 use native.Mathlib.Numerals.{add-one}
 use native.Mathlib.Omega.{arith}
 use mathlib.Core.Path.{◌≡◌, ap, ap₂, ◌∙◌}
-use mathlib.Core.List.{List, []}
+use mathlib.Core.List.{[]}
 use lib.ListN.{replicate}
-use borrow.Author.Rules.{rules}
 use Rattle.planes.specs.Cells.{cells_in, cell_width, margin}
-use Rattle.planes.specs.Pixel.{behind_planes, pixel_of}
-use Rattle.planes.specs.Origin.{origin_code, pixel_behind, settle}
+use Rattle.planes.specs.Pixel.{pixel_of}
+use Rattle.planes.specs.Origin.{origin_code}
 use Rattle.planes.specs.declared.origin.Pixel.{Pixel}
-use Rattle.planes.proofs.Laws.Cells.{run-within, eight-or-six, cells-few}
-use Rattle.planes.proofs.Laws.Painted.{Shown}
-use Rattle.planes.proofs.Laws.Plane.{by_plane, shown-none, shown-cell, shown-plane}
+use Rattle.planes.proofs.Laws.Plane.{shown-none, shown-cell, shown-plane}
 use Rattle.planes.proofs.plane.draw_plane_with_origins.Invariants.{code_of}
 use Rattle.planes.proofs.plane.draw_plane_with_origins.Goals as goal
 

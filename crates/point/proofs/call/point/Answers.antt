@@ -2,17 +2,16 @@
 use native.Mathlib.Omega.{arith}
 use Prim.Native.Nat.{ℕ}
 use mathlib.Core.Path.{◌≡◌, ap, ap₂, ◌∙◌}
-use mathlib.Core.Bool.{true, false}
+use mathlib.Core.Bool.{true}
 use lib.Dec.{leb}
-use borrow.Author.Tests.{eq-eqb, ne_eqb, le-leb, lt-leb}
+use borrow.Author.Tests.{eq-eqb, le-leb}
 use Rattle.chip.specs.declared.state.Chip.{Chip}
 use Rattle.chip.specs.declared.refusal.Refusal.TheVariants.{Accepted}
-use Rattle.chip.proofs.Laws.State.{taken_not, left_not, masked-in}
+use Rattle.chip.proofs.Laws.State.{masked-in}
 use Rattle.planes.specs.Origin.{origin_code}
 use Rattle.planes.specs.declared.origin.Pixel.{Pixel}
 use Rattle.point.specs.declared.call.PointAnswer.{PointAnswer}
 use Rattle.point.proofs.Laws.Point.{pixel-colour}
-use borrow.Author.Rules.{rules}
 use mathlib.Core.Path.{sym}
 use Rattle.point.proofs.call.point.Goals as goal
 
@@ -20,7 +19,7 @@ abbrev the-answer : Chip → ℕ → ℕ → PointAnswer
 the-answer chip colour origin = record { chip = chip; refusal = Accepted; colour = colour; origin = origin }
 
 pub point_pixel-pixel-requires : goal.point_pixel-pixel-requires
-point_pixel-pixel-requires c =     (masked-in _ ((sym c.is_well_formed.ensures ∙ c.if-not-is_well_formed.false)), c.if-vram-ne16384.false, omega (arith, c.if-line-gt191.false))
+point_pixel-pixel-requires c = (masked-in _ ((sym c.is_well_formed.ensures ∙ c.if-not-is_well_formed.false)), c.if-vram-ne16384.false, omega (arith, c.if-line-gt191.false))
 
 pub returns : goal.returns
 returns c =

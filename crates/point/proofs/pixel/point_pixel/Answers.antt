@@ -8,7 +8,6 @@ use Rattle.planes.specs.Plane.{cell_colour, cell_holding}
 use Rattle.sprites.specs.Scan.{scan_of}
 use Rattle.scanline.specs.Line.{no_sprites, has_sprites, sprites_of}
 use Rattle.point.proofs.Laws.Point.{pixel-over}
-use borrow.Author.Rules.{rules}
 use Rattle.point.proofs.pixel.point_pixel.Goals as goal
 
 pub returns-then-has_sprites : goal.returns-then-has_sprites

@@ -2,7 +2,6 @@
 use native.Mathlib.Omega.{arith}
 use Rattle.port_log.specs.Tests.{distance_right}
 use Rattle.port_log.proofs.Laws.Form.{sized}
-use borrow.Author.Rules.{rules}
 use Rattle.port_log.proofs.form.distance_right.Goals as goal
 
 pub overflow_sub-trailer : goal.overflow_sub-trailer

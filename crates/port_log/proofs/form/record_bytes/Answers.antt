@@ -1,7 +1,5 @@
 -- `record_bytes` meets its contract.
 use native.Mathlib.Omega.{arith}
-use mathlib.Core.Path.{sym}
-use lib.Seq.{length-take-le}
 use Rattle.port_log.specs.Format.{record_bytes}
 use Rattle.port_log.proofs.Laws.Form.{sized}
 use borrow.Author.Rules.{rules}

@@ -1,11 +1,8 @@
 -- `sum_right` meets its contract.
 use native.Mathlib.Omega.{arith}
-use mathlib.Core.Path.{sym}
-use lib.Seq.{length-take-le}
 use Rattle.port_log.specs.Format.{record_bytes}
 use Rattle.port_log.specs.Tests.{log_sum_right}
 use Rattle.port_log.proofs.Laws.Form.{sized}
-use borrow.Author.Rules.{rules}
 use Rattle.port_log.proofs.form.sum_right.Goals as goal
 
 pub overflow_sub-trailer : goal.overflow_sub-trailer

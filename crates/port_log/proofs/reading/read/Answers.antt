@@ -1,19 +1,9 @@
 -- `read`: each test in turn, and what is copied past all of them.
 use Prim.Native.Nat.{ℕ}
-use mathlib.Core.Path.{◌≡◌, refl, sym, ap, ◌∙◌}
-use mathlib.Core.Bool.{Bool, true, cond}
+use mathlib.Core.Path.{refl, sym, ◌∙◌}
 use mathlib.Core.List.{List}
-use lib.Dec.{eqb}
-use borrow.Author.Tests.{eq-eqb, ne_eqb}
-use Rattle.chip.specs.Refusals.{is_accepted}
 use Rattle.chip.proofs.Laws.Ranges.{or-true}
-use Rattle.chip.proofs.Laws.Refusals.{passed, is-accepted}
-use Rattle.port_log.specs.Format.{record_bytes}
-use Rattle.port_log.specs.Tests.{records_size_test, log_tests}
-use Rattle.port_log.specs.Calls.{read_refusal}
 use Rattle.port_log.proofs.Laws.Form.{too_short, length-record-bytes}
-use Rattle.port_log.proofs.Laws.Refusals.{Good, accepted-good}
-use borrow.Author.Rules.{rules}
 use Rattle.port_log.proofs.reading.read.Goals as goal
 
 pub returns-then-log-lt4-clause-value : goal.returns-then-log-lt4-clause-value

@@ -1,14 +1,12 @@
 -- `all_allowed`: the records before i are allowed, so those from i on decide.
 use Prim.Native.Nat.{ℕ, ◌+◌, ◌*◌, ◌-◌, ◌/◌, ◌≤◌, ◌<◌}
 use native.Mathlib.Omega.{arith}
-use mathlib.Core.Path.{◌≡◌, refl, sym, ap, ◌∙◌}
+use mathlib.Core.Path.{◌≡◌, ap, ◌∙◌}
 use mathlib.Core.Bool.{Bool, true, ◌&&◌}
 use mathlib.Core.List.{List}
 use lib.ListN.{length, drop, length-drop}
-use Rattle.chip.proofs.Laws.State.{taken_not, left_not}
 use Rattle.port_log.specs.Records.{allowed, all_allowed, records_of, record_at}
 use Rattle.port_log.proofs.Laws.Records.{records-none, records-next}
-use borrow.Author.Rules.{rules}
 use Rattle.port_log.proofs.records.all_allowed.Given as goal
 
 -- whether the records from i on are allowed

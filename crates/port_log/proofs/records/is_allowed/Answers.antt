@@ -1,6 +1,5 @@
 -- `is_allowed` meets its contract.
 use Rattle.port_log.specs.Records.{allowed}
-use borrow.Author.Rules.{rules}
 use Rattle.port_log.proofs.records.is_allowed.Goals as goal
 
 pub returns : goal.returns

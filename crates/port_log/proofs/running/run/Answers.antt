@@ -1,20 +1,16 @@
 -- `run`: each test in turn, and the records past all of them.
 use Prim.Native.Nat.{ℕ}
 use native.Mathlib.Omega.{arith}
-use mathlib.Core.Path.{◌≡◌, refl, sym, ◌∙◌}
+use mathlib.Core.Path.{◌≡◌, sym, ◌∙◌}
 use mathlib.Core.List.{List}
 use lib.ListN.{length}
-use borrow.Author.Rules.{rules}
-use borrow.Author.Tests.{eq-eqb, ne_eqb}
+use borrow.Author.Tests.{eq-eqb}
 use Rattle.chip.specs.Refusals.{number_of, refusal_of}
 use Rattle.chip.specs.declared.refusal.Refusal.TheVariants.{Accepted}
-use Rattle.chip.proofs.Laws.State.{taken_not, left_not}
 use Rattle.chip.proofs.Laws.Refusals.{is-accepted}
 use Rattle.port_log.specs.Tests.{log_tests}
-use Rattle.port_log.specs.Run.{run_refusal}
 use Rattle.port_log.proofs.Laws.Form.{sized, length-record-bytes}
 use Rattle.port_log.proofs.Laws.Refusals.{accepted-good}
-use Rattle.port_log.proofs.Laws.Tested.{log-decides, refused-run, refused-slices, accepted-run, accepted-slices}
 use Rattle.port_log.proofs.running.run.Goals as goal
 
 pub run_records-requires : goal.run_records-requires

@@ -1,14 +1,9 @@
 -- `run_records`: what is left to run from place `i` on ends as the whole run does.
-use Prim.Native.Nat.{◌≤◌, ◌/◌, ◌-◌}
 use native.Mathlib.Omega.{arith}
-use mathlib.Core.Path.{◌≡◌, refl, sym, ap, ◌∙◌}
-use lib.ListN.{length}
+use mathlib.Core.Path.{sym, ap, ◌∙◌}
 use borrow.Author.Rules.{rules}
-use Rattle.port_log.specs.Records.{records_of}
 use Rattle.port_log.specs.Single.{target}
-use Rattle.port_log.specs.Run.{End, run_from, ran_of}
-use Rattle.port_log.specs.Rest.{run_rest}
-use Rattle.port_log.specs.declared.records.Record.{Record}
+use Rattle.port_log.specs.Run.{End, ran_of}
 use Rattle.port_log.proofs.Laws.Steps.{rest_over, rest-differs, rest-goes-on}
 use Rattle.port_log.proofs.running.run_records.Goals as goal
 

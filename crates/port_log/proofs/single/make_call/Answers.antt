@@ -1,7 +1,6 @@
 -- `make_call`: in each branch the call that its contract cites.
 use mathlib.Core.Path.{refl}
 use Rattle.port_log.specs.Single.{answer_by, vram_by, map_by, line_by}
-use borrow.Author.Rules.{rules}
 use Rattle.port_log.proofs.single.make_call.Goals as goal
 
 pub returns-in-DataWrite-clause-value : goal.returns-in-DataWrite-clause-value

@@ -1,10 +1,7 @@
 -- `write_stretch`: each data write leaves a run that ends as before.
-use Prim.Native.Nat.{◌+◌, ◌*◌, ◌/◌, ◌-◌, ◌≤◌, ◌<◌}
 use native.Mathlib.Omega.{arith}
-use mathlib.Core.Path.{◌≡◌, refl, ◌∙◌}
-use lib.ListN.{length, get_or}
+use mathlib.Core.Path.{◌∙◌}
 use borrow.Author.Rules.{rules}
-use Rattle.port_log.specs.Rest.{EndsAlike}
 use Rattle.port_log.proofs.Laws.Steps.{data-write-goes-on}
 use Rattle.port_log.proofs.stretch.write_stretch.Goals as goal
 

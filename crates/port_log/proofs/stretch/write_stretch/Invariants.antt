@@ -1,11 +1,8 @@
 -- `write_stretch`: each data write leaves a run that ends as before.
 use Prim.Native.Nat.{◌+◌, ◌*◌, ◌/◌, ◌-◌, ◌≤◌, ◌<◌}
-use native.Mathlib.Omega.{arith}
-use mathlib.Core.Path.{◌≡◌, refl, ◌∙◌}
+use mathlib.Core.Path.{◌≡◌}
 use lib.ListN.{length, get_or}
-use borrow.Author.Rules.{rules}
 use Rattle.port_log.specs.Rest.{EndsAlike}
-use Rattle.port_log.proofs.Laws.Steps.{data-write-goes-on}
 use Rattle.port_log.proofs.stretch.write_stretch.Given as goal
 
 abbrev pub invariant-loop-next : goal.invariant-loop-next

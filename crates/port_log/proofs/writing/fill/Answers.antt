@@ -1,7 +1,6 @@
 -- `fill`: what the three puts leave is the log.
 use native.Mathlib.Omega.{arith}
 use Rattle.port_log.proofs.Laws.Filling.{filled}
-use borrow.Author.Rules.{rules}
 use Rattle.port_log.proofs.writing.fill.Goals as goal
 
 pub returns : goal.returns

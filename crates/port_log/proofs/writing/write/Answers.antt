@@ -1,13 +1,10 @@
 -- `write` meets its contract.
 use native.Mathlib.Omega.{arith}
-use mathlib.Core.Path.{◌≡◌, refl}
+use mathlib.Core.Path.{◌≡◌}
 use mathlib.Core.Bool.{true}
 use lib.ListN.{length}
-use borrow.Author.Tests.{eq-eqb, ne_eqb}
-use Rattle.chip.proofs.Laws.State.{taken_not, left_not}
 use Rattle.port_log.specs.Tests.{size_allowed}
 use Rattle.port_log.proofs.Laws.Form.{sized}
-use borrow.Author.Rules.{rules}
 use mathlib.Core.Path.{sym, ◌∙◌}
 use Rattle.port_log.proofs.writing.write.Goals as goal
 

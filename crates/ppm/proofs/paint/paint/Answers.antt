@@ -1,10 +1,7 @@
 -- `paint`: the first `x` colours are painted.
-use Prim.Native.Nat.{◌≤◌, ◌-◌}
-use mathlib.Core.Path.{◌≡◌, refl}
+use mathlib.Core.Path.{refl}
 use native.Mathlib.Omega.{arith}
-use lib.ListN.{length, length-set}
-use Rattle.ppm.proofs.Laws.Paint.{Painting, painting-none, painting-long, painting-more, painting-all}
-use borrow.Author.Rules.{rules}
+use Rattle.ppm.proofs.Laws.Paint.{painting-none, painting-long, painting-more}
 use Rattle.ppm.proofs.paint.paint.Goals as goal
 
 pub loop-x-init : goal.loop-x-init

@@ -1,10 +1,8 @@
 -- `paint`: the first `x` colours are painted.
 use Prim.Native.Nat.{◌≤◌, ◌-◌}
-use mathlib.Core.Path.{◌≡◌, refl}
-use native.Mathlib.Omega.{arith}
-use lib.ListN.{length, length-set}
-use Rattle.ppm.proofs.Laws.Paint.{Painting, painting-none, painting-long, painting-more, painting-all}
-use borrow.Author.Rules.{rules}
+use mathlib.Core.Path.{◌≡◌}
+use lib.ListN.{length}
+use Rattle.ppm.proofs.Laws.Paint.{Painting}
 use Rattle.ppm.proofs.paint.paint.Given as goal
 
 abbrev pub invariant-loop-x : goal.invariant-loop-x

@@ -1,18 +1,14 @@
 -- `put_line` meets its contract: the line is drawn, and then painted.
 use Prim.Native.Nat.{ℕ, ◌+◌, ◌*◌}
-use native.Mathlib.Omega.{arith}
-use mathlib.Core.Path.{◌≡◌, refl, sym, ap, ◌∙◌}
-use mathlib.Core.List.{List}
+use mathlib.Core.Path.{◌≡◌, sym, ap, ◌∙◌}
 use lib.Dec.{eqb}
 use lib.ListN.{length}
-use Rattle.chip.specs.Lists.{put_at}
 use Rattle.chip.proofs.Laws.Lists.{length-tabulate}
 use Rattle.scanline.specs.Calls.{colours}
 use Rattle.ppm.specs.Picture.{painted}
 use Rattle.ppm.specs.declared.walk.Next.TheVariants.{Line}
 use Rattle.ppm.proofs.Laws.Paint.{length-painted}
-use Rattle.ppm.proofs.Laws.Steps.{not-drawn, drawn-below, is-drawn, drawn-line}
-use borrow.Author.Rules.{rules}
+use Rattle.ppm.proofs.Laws.Steps.{is-drawn, drawn-line}
 use Rattle.ppm.proofs.walk.put_line.Goals as goal
 
 pub returns-clause-value : goal.returns-clause-value

@@ -8,7 +8,6 @@ use Rattle.sprites.proofs.Laws.Ended.{ended-small}
 use Rattle.scanline.specs.Line.{has_sprites}
 use Rattle.scanline.proofs.Laws.Line.{note-is, sprites-over}
 use Rattle.redraw.proofs.Laws.Finish.{has_some, scanned, empty-note, empty-line}
-use borrow.Author.Rules.{rules}
 use Rattle.redraw.proofs.line.finish_line.Goals as goal
 
 pub returns-then-set-eq0-clause-value : goal.returns-then-set-eq0-clause-value
@@ -22,7 +21,7 @@ returns-then-set-eq0-clause-line_after c =
     empty-line a.r a.vram.now a.l a.set c.requires.2 c.if-set-eq0.true c.requires.4
 
 pub draw_found-met-requires : goal.draw_found-met-requires
-draw_found-met-requires c =     (ap length c.requires.4 ∙ length-tabulate 256 _, c.requires.3, c.scan_by_set-scan.ensures.held)
+draw_found-met-requires c = (ap length c.requires.4 ∙ length-tabulate 256 _, c.requires.3, c.scan_by_set-scan.ensures.held)
 
 pub note_of-requires : goal.note_of-requires
 note_of-requires c =

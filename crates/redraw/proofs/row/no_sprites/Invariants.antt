@@ -1,11 +1,7 @@
 -- `no_sprites`: the joined sets are 0 only where each of them is.
 use Prim.Native.Nat.{ℕ, ◌+◌, ◌*◌, ◌-◌, ◌≤◌, ◌<◌}
-use native.Mathlib.Omega.{arith}
 use mathlib.Core.Path.{◌≡◌}
-use borrow.Author.Count.{below_more}
-use borrow.Author.Tests.{eqb-true}
 use lib.ListN.{get_or}
-use Rattle.chip.proofs.Laws.Bits.{both_zero}
 use Rattle.redraw.proofs.row.no_sprites.Given as goal
 
 abbrev pub invariant-loop-k : goal.invariant-loop-k

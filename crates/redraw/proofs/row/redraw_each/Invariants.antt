@@ -1,17 +1,10 @@
 -- `redraw_each`: the lines before `k` are redrawn if due, and counted.
-use Prim.Native.Nat.{ℕ, ◌≤◌, ◌<◌, ◌-◌, ◌*◌, ◌+◌}
-use native.Mathlib.Omega.{arith}
-use mathlib.Core.Path.{◌≡◌, refl, ap, subst, ◌∙◌}
-use mathlib.Core.Bool.{Bool, cond}
-use mathlib.Core.List.{List}
-use lib.ListN.{length, take, drop}
+use Prim.Native.Nat.{◌≤◌, ◌-◌}
+use mathlib.Core.Path.{◌≡◌}
+use lib.ListN.{length}
 use Rattle.chip.specs.Bits.{bit}
-use Rattle.scanline.specs.Calls.{note_at, colours}
 use Rattle.redraw.specs.Row.{row_line, row_note}
-use Rattle.redraw.proofs.Laws.Redraw.{Redrawn, redrawn-none, redrawn-line, redrawn-all, prefix-long}
-use Rattle.redraw.proofs.Laws.Lines.{count-le, bit-small, old-line}
-use Rattle.redraw.proofs.Laws.Row.{plane-line, wide_row}
-use borrow.Author.Rules.{rules}
+use Rattle.redraw.proofs.Laws.Redraw.{Redrawn}
 use Rattle.redraw.proofs.row.redraw_each.Given as goal
 
 abbrev pub invariant-loop-k : goal.invariant-loop-k

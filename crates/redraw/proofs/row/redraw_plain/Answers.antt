@@ -1,9 +1,8 @@
 -- `redraw_plain` meets its contract.
 use Prim.Native.Nat.{ℕ}
-use mathlib.Core.Path.{◌≡◌, ap, ◌∙◌}
+use mathlib.Core.Path.{ap, ◌∙◌}
 use lib.ListN.{replicate}
 use Rattle.redraw.proofs.Laws.Whole.{plain_lines, plain-notes}
-use borrow.Author.Rules.{rules}
 use Rattle.redraw.proofs.row.redraw_plain.Goals as goal
 
 pub returns-clause-part_after : goal.returns-clause-part_after

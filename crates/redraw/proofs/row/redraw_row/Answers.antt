@@ -5,17 +5,15 @@ use mathlib.Core.Path.{◌≡◌, refl, sym, ap, ◌∙◌}
 use mathlib.Core.Bool.{false}
 use mathlib.Core.List.{List}
 use borrow.Author.Tests.{eqb-true}
-use lib.Dec.{eqb}
 use Rattle.chip.specs.Bits.{bit}
 use Rattle.chip.proofs.Laws.Bits.{bit-zero}
-use Rattle.chip.proofs.Laws.Ranges.{and_left, and_right}
+use Rattle.chip.proofs.Laws.Ranges.{and_left}
 use Rattle.scanline.specs.Calls.{note_at, colours}
-use Rattle.redraw.specs.Row.{row_lines, row_notes}
+use Rattle.redraw.specs.Row.{row_lines}
 use Rattle.redraw.specs.declared.line.Planes.{Planes}
 use Rattle.redraw.specs.declared.line.Planes.TheVariants.{Here, Beside, Nowhere}
 use Rattle.redraw.proofs.Laws.Whole.{whole_row, whole-count}
 use Rattle.redraw.proofs.Laws.Still.{frame-stays, notes-stay, no-count}
-use borrow.Author.Rules.{rules}
 use Rattle.redraw.proofs.row.redraw_row.Goals as goal
 
 -- the part as it was lent, where the planes are not drawn into it; where they are, all lines are due

@@ -1,20 +1,17 @@
 -- `draw_graphics_one`: the cells before `i` are painted.
-use Prim.Native.Nat.{ℕ, ◌+◌, ◌-◌, ◌*◌, ◌/◌, ◌≤◌, ◌<◌}
+use Prim.Native.Nat.{ℕ, ◌+◌, ◌*◌, ◌≤◌, ◌<◌}
 use native.Mathlib.Omega.{arith}
 use mathlib.Core.Path.{◌≡◌, ◌∙◌}
-use mathlib.Core.List.{List}
-use borrow.Author.Rules.{rules}
 use lib.Dec.{lit<}
-use lib.ListN.{length, get_or}
+use lib.ListN.{get_or}
 use Rattle.chip.specs.State.{Bytes, masks, register}
 use Rattle.chip.specs.declared.mode.Mode.TheVariants.{GraphicsI}
 use Rattle.chip.proofs.Laws.Tables.{at-most-mask}
 use Rattle.rows.proofs.Laws.Cells.{cell-graphics-one}
-use Rattle.rows.proofs.Laws.Paints.{blended, shown}
+use Rattle.rows.proofs.Laws.Paints.{shown}
 use Rattle.rows.proofs.Laws.Plane.{settled-cells, all_settled}
 use Rattle.rows.proofs.Laws.Settled.{settled-none}
-use Rattle.rows.proofs.Laws.Tiles.{Tiled, tiled-none, tiled-more}
-use Rattle.rows.proofs.draw.draw_graphics_one.Invariants.{tile}
+use Rattle.rows.proofs.Laws.Tiles.{tiled-more}
 use Rattle.rows.proofs.draw.draw_graphics_one.Goals as goal
 
 pub bounds-vram-names : goal.bounds-vram-names
@@ -31,7 +28,7 @@ paint_patterns-requires c =
     (c.loop-i.invariant.1.long ∙ c.requires.5, omega arith, omega (arith, most 4 (lit< tt), name-byte), c.requires.3)
 
 pub loop-i-preserved : goal.loop-i-preserved
-loop-i-preserved c =     (omega arith, tiled-more GraphicsI (omega arith) (omega arith) c.loop-i.invariant.1 c.paint_patterns.ensures)
+loop-i-preserved c = (omega arith, tiled-more GraphicsI (omega arith) (omega arith) c.loop-i.invariant.1 c.paint_patterns.ensures)
 
 pub returns : goal.returns
 returns c =

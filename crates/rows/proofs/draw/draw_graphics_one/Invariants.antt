@@ -1,19 +1,10 @@
 -- `draw_graphics_one`: the cells before `i` are painted.
-use Prim.Native.Nat.{ℕ, ◌+◌, ◌-◌, ◌*◌, ◌/◌, ◌≤◌, ◌<◌}
-use native.Mathlib.Omega.{arith}
-use mathlib.Core.Path.{◌≡◌, ◌∙◌}
+use Prim.Native.Nat.{ℕ, ◌+◌, ◌-◌, ◌*◌, ◌/◌, ◌≤◌}
 use mathlib.Core.List.{List}
-use borrow.Author.Rules.{rules}
-use lib.Dec.{lit<}
-use lib.ListN.{length, get_or}
-use Rattle.chip.specs.State.{Bytes, masks, register}
+use lib.ListN.{get_or}
 use Rattle.chip.specs.declared.mode.Mode.TheVariants.{GraphicsI}
-use Rattle.chip.proofs.Laws.Tables.{at-most-mask}
-use Rattle.rows.proofs.Laws.Cells.{cell-graphics-one}
-use Rattle.rows.proofs.Laws.Paints.{blended, shown}
-use Rattle.rows.proofs.Laws.Plane.{settled-cells, all_settled}
-use Rattle.rows.proofs.Laws.Settled.{settled-none}
-use Rattle.rows.proofs.Laws.Tiles.{Tiled, tiled-none, tiled-more}
+use Rattle.rows.proofs.Laws.Paints.{blended}
+use Rattle.rows.proofs.Laws.Tiles.{Tiled}
 use Rattle.rows.proofs.draw.draw_graphics_one.Given as goal
 
 -- pixel j of line k of cell i

@@ -1,20 +1,17 @@
 -- `draw_graphics_two`: the cells before `i` are painted.
-use Prim.Native.Nat.{ℕ, ◌+◌, ◌-◌, ◌*◌, ◌≤◌, ◌<◌}
+use Prim.Native.Nat.{ℕ, ◌+◌, ◌*◌, ◌≤◌, ◌<◌}
 use native.Mathlib.Omega.{arith}
 use mathlib.Core.Path.{◌≡◌, ◌∙◌}
-use mathlib.Core.List.{List}
-use borrow.Author.Rules.{rules}
 use lib.Dec.{lit<}
 use lib.ListN.{get_or}
 use Rattle.chip.specs.State.{Bytes, masks, register}
 use Rattle.chip.specs.declared.mode.Mode.TheVariants.{GraphicsII}
 use Rattle.chip.proofs.Laws.Tables.{at-most-mask}
 use Rattle.rows.proofs.Laws.Cells.{cell-graphics-two}
-use Rattle.rows.proofs.Laws.Paints.{blended, shown}
+use Rattle.rows.proofs.Laws.Paints.{shown}
 use Rattle.rows.proofs.Laws.Plane.{settled-cells, all_settled}
 use Rattle.rows.proofs.Laws.Settled.{settled-none}
-use Rattle.rows.proofs.Laws.Tiles.{Tiled, tiled-none, tiled-more}
-use Rattle.rows.proofs.draw.draw_graphics_two.Invariants.{tile}
+use Rattle.rows.proofs.Laws.Tiles.{tiled-more}
 use Rattle.rows.proofs.draw.draw_graphics_two.Goals as goal
 
 pub bounds-vram-names : goal.bounds-vram-names
@@ -26,8 +23,7 @@ pub paint_coloured-requires : goal.paint_coloured-requires
 paint_coloured-requires c =
     let bytes : Bytes c.args.vram.now = λ i. (c.shared_slice_known-1.given i).fits in
     let name-byte : let a = c.args in get_or a.vram.now (register 2 a.r * 1024 + a.row * 32 + c.loop-i.i) 0 < 256 = bytes _ in
-    let most : (n : ℕ) → n < 8 → register n c.args.r ≤ get_or masks n 0 = λ n h. at-most-mask c.args.r c.requires.0 n h in
-    (
+    let most : (n : ℕ) → n < 8 → register n c.args.r ≤ get_or masks n 0 = λ n h. at-most-mask c.args.r c.requires.0 n h in (
       c.loop-i.invariant.1.long ∙ c.requires.5,
       omega arith,
       omega (arith, most 4 (lit< tt), name-byte),
@@ -37,7 +33,7 @@ paint_coloured-requires c =
     )
 
 pub loop-i-preserved : goal.loop-i-preserved
-loop-i-preserved c =     (omega arith, tiled-more GraphicsII (omega arith) (omega arith) c.loop-i.invariant.1 c.paint_coloured.ensures)
+loop-i-preserved c = (omega arith, tiled-more GraphicsII (omega arith) (omega arith) c.loop-i.invariant.1 c.paint_coloured.ensures)
 
 pub returns : goal.returns
 returns c =

@@ -1,22 +1,17 @@
 -- `draw_multicolor`: the cells before `i` are painted.
-use Prim.Native.Nat.{ℕ, ◌+◌, ◌-◌, ◌*◌, ◌%◌, ◌≤◌, ◌<◌}
+use Prim.Native.Nat.{ℕ, ◌+◌, ◌*◌, ◌%◌, ◌≤◌, ◌<◌}
 use native.Mathlib.Omega.{arith}
-use mathlib.Core.Path.{◌≡◌, refl, ◌∙◌}
-use mathlib.Core.Bool.{cond}
-use mathlib.Core.List.{List}
-use borrow.Author.Rules.{rules}
-use lib.Dec.{ltb, lit<}
+use mathlib.Core.Path.{◌≡◌, refl}
+use lib.Dec.{lit<}
 use lib.ListN.{get_or}
 use Rattle.chip.specs.State.{Bytes, masks, register}
 use Rattle.chip.specs.declared.mode.Mode.TheVariants.{Multicolor}
 use Rattle.chip.proofs.Laws.Tables.{at-most-mask}
-use Rattle.words.specs.Words.{byte_of}
 use Rattle.rows.proofs.Laws.Cells.{cell-upper, cell-lower}
 use Rattle.rows.proofs.Laws.Plane.{settled-cells, all_settled}
 use Rattle.rows.proofs.Laws.Settled.{settled-none}
 use Rattle.rows.proofs.Laws.Shown.{word-half}
-use Rattle.rows.proofs.Laws.Tiles.{Tiled, tiled-none, tiled-more}
-use Rattle.rows.proofs.draw.draw_multicolor.Invariants.{tile}
+use Rattle.rows.proofs.Laws.Tiles.{tiled-more}
 use Rattle.rows.proofs.draw.draw_multicolor.Goals as goal
 
 pub bounds-vram-names : goal.bounds-vram-names
@@ -45,7 +40,7 @@ bounds-vram-at-in-loop-i c =
     omega (arith, place)
 
 pub loop-i-preserved : goal.loop-i-preserved
-loop-i-preserved c =     (omega arith, tiled-more Multicolor (omega arith) (omega arith) c.loop-i.invariant.1 c.paint_blocks.ensures)
+loop-i-preserved c = (omega arith, tiled-more Multicolor (omega arith) (omega arith) c.loop-i.invariant.1 c.paint_blocks.ensures)
 
 pub returns : goal.returns
 returns c =

@@ -1,21 +1,12 @@
 -- `draw_multicolor`: the cells before `i` are painted.
-use Prim.Native.Nat.{ℕ, ◌+◌, ◌-◌, ◌*◌, ◌%◌, ◌≤◌, ◌<◌}
-use native.Mathlib.Omega.{arith}
-use mathlib.Core.Path.{◌≡◌, refl, ◌∙◌}
+use Prim.Native.Nat.{ℕ, ◌+◌, ◌-◌, ◌*◌, ◌≤◌}
 use mathlib.Core.Bool.{cond}
 use mathlib.Core.List.{List}
-use borrow.Author.Rules.{rules}
-use lib.Dec.{ltb, lit<}
+use lib.Dec.{ltb}
 use lib.ListN.{get_or}
-use Rattle.chip.specs.State.{Bytes, masks, register}
 use Rattle.chip.specs.declared.mode.Mode.TheVariants.{Multicolor}
-use Rattle.chip.proofs.Laws.Tables.{at-most-mask}
 use Rattle.words.specs.Words.{byte_of}
-use Rattle.rows.proofs.Laws.Cells.{cell-upper, cell-lower}
-use Rattle.rows.proofs.Laws.Plane.{settled-cells, all_settled}
-use Rattle.rows.proofs.Laws.Settled.{settled-none}
-use Rattle.rows.proofs.Laws.Shown.{word-half}
-use Rattle.rows.proofs.Laws.Tiles.{Tiled, tiled-none, tiled-more}
+use Rattle.rows.proofs.Laws.Tiles.{Tiled}
 use Rattle.rows.proofs.draw.draw_multicolor.Given as goal
 
 -- pixel j of line k of cell i

@@ -1,7 +1,6 @@
 -- `draw_plane_row` meets its contract.
 use Prim.Native.Nat.{◌+◌, ◌*◌, ◌/◌, ◌%◌}
 use Rattle.rows.proofs.Laws.Plane.{blank_part}
-use borrow.Author.Rules.{rules}
 use Rattle.rows.proofs.draw.draw_plane_row.Goals as goal
 
 pub returns-in-Blank : goal.returns-in-Blank

@@ -1,9 +1,7 @@
 -- `draw_text`: the cells before `i` are painted, and the margin on their left.
-use Prim.Native.Nat.{ℕ, ◌+◌, ◌-◌, ◌*◌, ◌≤◌, ◌<◌}
+use Prim.Native.Nat.{ℕ, ◌+◌, ◌*◌, ◌≤◌, ◌<◌}
 use native.Mathlib.Omega.{arith}
 use mathlib.Core.Path.{◌≡◌, refl, ◌∙◌}
-use mathlib.Core.List.{List}
-use borrow.Author.Rules.{rules}
 use lib.Dec.{lit<}
 use lib.ListN.{get_or}
 use Rattle.chip.specs.State.{Bytes, masks, register}
@@ -12,13 +10,11 @@ use Rattle.chip.proofs.Laws.Tables.{at-most-mask}
 use Rattle.fetches.specs.Fetch.{value}
 use Rattle.planes.specs.Cells.{plane_of}
 use Rattle.planes.proofs.Laws.Plane.{left-of-cells, right-of-cells}
-use Rattle.words.specs.Words.{byte_of}
 use Rattle.rows.proofs.Laws.Cells.{cell-text}
 use Rattle.rows.proofs.Laws.Plane.{settled-cells, settled-margin, all_settled}
 use Rattle.rows.proofs.Laws.Settled.{settled-none}
 use Rattle.rows.proofs.Laws.Shown.{word-shown}
-use Rattle.rows.proofs.Laws.Tiles.{Tiled, tiled-none, tiled-more}
-use Rattle.rows.proofs.draw.draw_text.Invariants.{tile}
+use Rattle.rows.proofs.Laws.Tiles.{tiled-more}
 use Rattle.rows.proofs.draw.draw_text.Goals as goal
 
 pub bounds-vram-names : goal.bounds-vram-names
@@ -34,7 +30,7 @@ paint_bytes-requires c =
     (c.loop-i.invariant.2.long ∙ c.paint_blocks.ensures.long ∙ c.requires.5, omega arith, omega (arith, most 4 (lit< tt), name-byte), c.requires.3.long)
 
 pub loop-i-preserved : goal.loop-i-preserved
-loop-i-preserved c =     (omega arith, omega arith, tiled-more Text (omega arith) c.loop-i.invariant.1 c.loop-i.invariant.2 c.paint_bytes.ensures)
+loop-i-preserved c = (omega arith, omega arith, tiled-more Text (omega arith) c.loop-i.invariant.1 c.loop-i.invariant.2 c.paint_bytes.ensures)
 
 pub returns : goal.returns
 returns c =

@@ -1,7 +1,6 @@
 -- `draw_text_line` meets its contract.
 use Prim.Native.Nat.{◌+◌}
 use native.Mathlib.Omega.{arith}
-use borrow.Author.Rules.{rules}
 use Rattle.chip.specs.declared.mode.Mode.TheVariants.{Text}
 use Rattle.fetches.specs.Fetch.{value}
 use Rattle.planes.specs.Cells.{plane_of}

@@ -1,9 +1,6 @@
 -- `paints`: the colours before `colour` are mixed.
 use Prim.Native.Nat.{◌-◌, ◌≤◌}
-use native.Mathlib.Omega.{arith}
-use mathlib.Core.Path.{◌≡◌, refl}
-use borrow.Author.Rules.{rules}
-use Rattle.rows.proofs.Laws.Paints.{Mixed, mixed-none, mixed-more, mixed-all}
+use Rattle.rows.proofs.Laws.Paints.{Mixed}
 use Rattle.rows.proofs.paint.paints.Given as goal
 
 abbrev pub invariant-loop-colour : goal.invariant-loop-colour

@@ -1,13 +1,6 @@
 -- `add_blocks`: the low nibbles before `low` have their words.
-use Prim.Native.Nat.{◌+◌, ◌-◌, ◌*◌, ◌/◌, ◌%◌, ◌≤◌}
-use native.Mathlib.Nat.{add-zero}
-use native.Mathlib.Omega.{arith}
-use mathlib.Core.Path.{◌≡◌, sym, ◌∙◌}
-use borrow.Author.Rules.{rules}
-use lib.Dec.{lit<}
-use Rattle.chip.specs.Bits.{bit}
+use Prim.Native.Nat.{◌+◌, ◌-◌, ◌≤◌}
 use Rattle.rows.specs.Shown.{Filled, block_byte}
-use Rattle.rows.proofs.Laws.Shown.{filled_more}
 use Rattle.rows.proofs.shown.add_blocks.Given as goal
 
 abbrev pub invariant-loop-low : goal.invariant-loop-low

@@ -1,13 +1,6 @@
 -- `multicolor_words`: the high nibbles before `high` have their words.
-use Prim.Native.Nat.{◌+◌, ◌-◌, ◌*◌, ◌≤◌}
-use native.Mathlib.Omega.{arith}
-use mathlib.Core.Path.{◌≡◌, refl}
-use borrow.Author.Rules.{rules}
-use Rattle.chip.specs.declared.mode.Mode.TheVariants.{Multicolor}
-use Rattle.rows.specs.Rows.{byte_cell}
+use Prim.Native.Nat.{◌-◌, ◌*◌, ◌≤◌}
 use Rattle.rows.specs.Shown.{Filled, block_byte}
-use Rattle.rows.proofs.Laws.Paints.{shown}
-use Rattle.rows.proofs.Laws.Shown.{filled_none, filled-all}
 use Rattle.rows.proofs.shown.multicolor_words.Given as goal
 
 abbrev pub invariant-loop-high : goal.invariant-loop-high

@@ -1,13 +1,10 @@
 -- `paint_blocks`: the lines before `k` are painted.
 use Prim.Native.Nat.{ℕ, ◌-◌, ◌≤◌}
-use native.Mathlib.Omega.{arith}
-use mathlib.Core.Path.{◌≡◌}
 use mathlib.Core.Bool.{cond}
 use mathlib.Core.List.{List}
-use borrow.Author.Tests.{lt-ltb, le-ltb}
 use lib.Dec.{ltb}
 use Rattle.words.specs.Words.{byte_of}
-use Rattle.rows.proofs.Laws.Lines.{Begun, begun-none, begun_more, begun_all}
+use Rattle.rows.proofs.Laws.Lines.{Begun}
 use Rattle.rows.proofs.stripe.paint_blocks.Given as goal
 
 abbrev pub invariant-loop-k : goal.invariant-loop-k

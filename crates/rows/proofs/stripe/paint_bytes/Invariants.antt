@@ -1,10 +1,8 @@
 -- `paint_bytes`: the lines before `k` are painted.
-use Prim.Native.Nat.{◌+◌, ◌-◌, ◌≤◌, ◌<◌}
-use native.Mathlib.Omega.{arith}
-use mathlib.Core.Path.{◌≡◌, refl}
+use Prim.Native.Nat.{◌+◌, ◌-◌, ◌≤◌}
 use lib.ListN.{get_or}
 use Rattle.words.specs.Words.{byte_of}
-use Rattle.rows.proofs.Laws.Lines.{Begun, begun-none, begun_more, begun_all}
+use Rattle.rows.proofs.Laws.Lines.{Begun}
 use Rattle.rows.proofs.stripe.paint_bytes.Given as goal
 
 abbrev pub invariant-loop-k : goal.invariant-loop-k

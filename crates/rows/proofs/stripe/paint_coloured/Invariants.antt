@@ -1,13 +1,10 @@
 -- `paint_coloured`: the lines before `k` are painted.
 use Prim.Native.Nat.{◌+◌, ◌-◌, ◌/◌, ◌%◌, ◌≤◌}
-use native.Mathlib.Omega.{arith}
-use mathlib.Core.Path.{◌≡◌}
 use mathlib.Core.Bool.{cond}
-use borrow.Author.Rules.{rules}
 use lib.ListN.{get_or}
 use Rattle.chip.specs.Bits.{bit}
 use Rattle.words.specs.Words.{byte_of}
-use Rattle.rows.proofs.Laws.Lines.{Begun, begun-none, begun_more, begun_all}
+use Rattle.rows.proofs.Laws.Lines.{Begun}
 use Rattle.rows.proofs.stripe.paint_coloured.Given as goal
 
 abbrev pub invariant-loop-k : goal.invariant-loop-k

@@ -5,7 +5,6 @@ use Rattle.fetches.specs.Fetch.{value}
 use Rattle.sprites.specs.Scan.{scan_of}
 use Rattle.scanline.specs.Line.{no_sprites, has_sprites, sprites_of}
 use Rattle.scanline.proofs.Laws.Line.{plane_line, note-is, sprites-over, plain-note, plain-line}
-use borrow.Author.Rules.{rules}
 use Rattle.scanline.proofs.draw.draw_row.Goals as goal
 
 pub returns-then-has_sprites-clause-value : goal.returns-then-has_sprites-clause-value

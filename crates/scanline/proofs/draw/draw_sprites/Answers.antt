@@ -1,6 +1,5 @@
 -- `draw_sprites` meets its contract.
 use Rattle.sprites.proofs.Laws.Ended.{ended-small}
-use borrow.Author.Rules.{rules}
 use Rattle.scanline.proofs.draw.draw_sprites.Goals as goal
 
 pub note_of-requires : goal.note_of-requires

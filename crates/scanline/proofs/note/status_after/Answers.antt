@@ -1,6 +1,5 @@
 -- `status_after` meets its contract.
 use Rattle.scanline.specs.Notes.{status_after}
-use borrow.Author.Rules.{rules}
 use Rattle.scanline.proofs.note.status_after.Goals as goal
 
 pub returns : goal.returns

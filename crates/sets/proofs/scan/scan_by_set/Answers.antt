@@ -1,13 +1,12 @@
 -- `scan_by_set` meets its contract.
-use Rattle.std.proofs.Common.{◌-◌, ◌<◌, arith, lit<, rules}
-use lib.Bits.{and_le_r}
+use Rattle.std.proofs.Common.{◌<◌, arith, lit<}
 use lib.Count.{count_trailing_zeros}
 use Rattle.sprites.specs.Scan.{attribute_address}
 use Rattle.sprites.proofs.Laws.Bounds.{attribute-inside}
 use Rattle.sprites.proofs.Laws.Read.{as_read}
 use Rattle.sets.specs.Sets.{y_of}
 use Rattle.sets.proofs.Laws.Bits.{Lowest, lowest}
-use Rattle.sets.proofs.Laws.Scan.{Settled, settled-start, settled-none, settled-fifth, settled-draw, next-covers}
+use Rattle.sets.proofs.Laws.Scan.{settled-none, settled-fifth, settled-draw, next-covers}
 use Rattle.sets.proofs.scan.scan_by_set.Goals as goal
 
 pub bounds-vram-attribute_address : goal.bounds-vram-attribute_address
@@ -32,7 +31,7 @@ loop-left-preserved c =
     settled-draw c.args.r c.args.vram.now c.args.l c.args.set c.requires.2 c.loop-left.invariant (next).0 (next).1 c.sprite_of.result drawn (rw drawn read) (few)
 
 pub returns-then-left-eq0 : goal.returns-then-left-eq0
-returns-then-left-eq0 c =     settled-none c.args.r c.args.vram.now c.args.l c.args.set c.requires.2 c.loop-left.invariant c.if-left-eq0.true
+returns-then-left-eq0 c = settled-none c.args.r c.args.vram.now c.args.l c.args.set c.requires.2 c.loop-left.invariant c.if-left-eq0.true
 
 pub returns-then-drawn-eq4 : goal.returns-then-drawn-eq4
 returns-then-drawn-eq4 c =

@@ -1,9 +1,6 @@
 -- `add_by_lines` meets its contract.
-use Rattle.std.proofs.Common.{◌≡◌, ◌+◌, ◌-◌, ◌%◌, ◌<◌, ◌≤◌, length, ◌∙◌, ⊎_elim, arith, rules}
-use Rattle.sprites.specs.Shape.{side}
-use Rattle.sprites.proofs.Laws.Columns.{side-small}
-use Rattle.chip.proofs.Laws.Bits.{one_shifted}
-use Rattle.sets.proofs.Laws.Added.{Added, added_none, added-outside, added-line}
+use Rattle.std.proofs.Common.{◌≡◌, ◌+◌, ◌-◌, ◌%◌, ◌≤◌}
+use Rattle.sets.proofs.Laws.Added.{Added}
 use Rattle.sets.proofs.set.add_by_lines.Given as goal
 
 abbrev pub invariant-loop-d : goal.invariant-loop-d

@@ -1,6 +1,6 @@
 -- `add_run`: the sets before `i` have the bit, the others are as they were.
-use Rattle.std.proofs.Common.{◌≡◌, ◌-◌, ◌≤◌, length, arith, rules}
-use Rattle.sets.proofs.Laws.Run.{Run, run_none, run_more}
+use Rattle.std.proofs.Common.{◌-◌, ◌≤◌, length}
+use Rattle.sets.proofs.Laws.Run.{Run}
 use Rattle.sets.proofs.set.add_run.Given as goal
 
 abbrev pub invariant-loop-i : goal.invariant-loop-i

@@ -1,7 +1,6 @@
 -- `add_sprite`: the lines of the sprite are one run, or are taken one by one.
-use Rattle.std.proofs.Common.{◌≡◌, ℕ, ◌+◌, ◌-◌, ◌*◌, ◌%◌, ◌^◌, ◌<◌, ◌≤◌, ◌∙◌, arith, rules}
+use Rattle.std.proofs.Common.{◌≡◌, ℕ, ◌+◌, ◌-◌, ◌*◌, ◌%◌, ◌^◌, ◌<◌, ◌≤◌, arith}
 use Rattle.sprites.specs.Shape.{side}
-use Rattle.sprites.proofs.Laws.Columns.{side-small}
 use Rattle.chip.proofs.Laws.Bits.{one_shifted}
 use Rattle.sets.proofs.Laws.Run.{added-run}
 use Rattle.sets.proofs.set.add_sprite.Goals as goal

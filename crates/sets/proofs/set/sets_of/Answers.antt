@@ -1,8 +1,8 @@
 -- `sets_of` meets its contract.
-use Rattle.std.proofs.Common.{◌≡◌, ℕ, ◌-◌, ◌<◌, false, eqb, get_or, sym, ap, ◌∙◌, inl, inr, arith, lit<, rules}
+use Rattle.std.proofs.Common.{◌≡◌, ℕ, ◌<◌, false, eqb, get_or, sym, ap, ◌∙◌, inl, inr, arith, lit<, rules}
 use Rattle.sprites.proofs.Laws.Bounds.{attribute-inside}
 use Rattle.sets.specs.Sets.{y_of}
-use Rattle.sets.proofs.Laws.Sets.{Begun, begun-start, begun_more, begun-end}
+use Rattle.sets.proofs.Laws.Sets.{begun-start, begun_more, begun-end}
 use Rattle.sets.proofs.set.sets_of.Goals as goal
 
 pub loop-n-init : goal.loop-n-init

@@ -1,7 +1,6 @@
 -- `state_bytes` meets its contract.
 use Rattle.snapshot.specs.Tests.{state_bytes}
 use native.Mathlib.Nat.{add-sub_cancel_left}
-use Rattle.std.proofs.Common.{rules}
 use Rattle.snapshot.proofs.parts.state_bytes.Goals as goal
 
 pub returns : goal.returns

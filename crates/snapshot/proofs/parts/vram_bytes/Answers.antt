@@ -1,7 +1,6 @@
 -- `vram_bytes` meets its contract.
 use Rattle.snapshot.specs.Tests.{vram_bytes}
 use native.Mathlib.Nat.{add-sub_cancel_left}
-use Rattle.std.proofs.Common.{rules}
 use Rattle.snapshot.proofs.parts.vram_bytes.Goals as goal
 
 pub returns : goal.returns

@@ -1,15 +1,12 @@
 -- `read`: each test in turn, and what is decoded and copied past all of them.
-use Rattle.chip.specs.State.{well_formed}
-use Rattle.snapshot.specs.Tests.{held_state}
-use Rattle.std.proofs.Common.{◌≡◌, ◌≤◌, length, sym, refl, ap, ◌∙◌, arith, rules, eq-eqb, ne_eqb}
-use Rattle.chip.proofs.Laws.State.{taken_not, left_not}
+use Rattle.std.proofs.Common.{◌≤◌, length, sym, ◌∙◌, arith}
 use Rattle.snapshot.proofs.Laws.Parts.{length-state, length-vram}
 use Rattle.snapshot.proofs.reading.read.Goals as goal
 
 pub decode-next-requires : goal.decode-next-requires
 decode-next-requires c =
     let fourteen : 14 ≤ length c.state_bytes.result.now = rw c.state_bytes.ensures (omega (arith, length-state c.args.snapshot.now c.if-snapshot-ne16406.false)) in
-    fourteen 
+    fourteen
 
 pub copy-requires : goal.copy-requires
-copy-requires c =     rw c.vram_bytes.ensures (c.if-vram-ne16384.false ∙ sym (length-vram c.args.snapshot.now c.if-snapshot-ne16406.false))
+copy-requires c = rw c.vram_bytes.ensures (c.if-vram-ne16384.false ∙ sym (length-vram c.args.snapshot.now c.if-snapshot-ne16406.false))

@@ -1,6 +1,5 @@
 -- `checksum`: the total is that of the bytes before `i`.
-use Rattle.std.proofs.Common.{◌≡◌, ◌-◌, ◌<◌, ◌≤◌, length, take, refl, ap, ◌∙◌, arith, take_all, rules}
-use Rattle.snapshot.specs.Format.{checksum}
+use Rattle.std.proofs.Common.{◌<◌, length, arith}
 use Rattle.snapshot.proofs.Laws.Sums.{sum_more}
 use Rattle.snapshot.proofs.sums.checksum.Goals as goal
 

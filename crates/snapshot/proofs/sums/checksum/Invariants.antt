@@ -1,7 +1,6 @@
 -- `checksum`: the total is that of the bytes before `i`.
-use Rattle.std.proofs.Common.{◌≡◌, ◌-◌, ◌<◌, ◌≤◌, length, take, refl, ap, ◌∙◌, arith, take_all, rules}
+use Rattle.std.proofs.Common.{◌≡◌, ◌-◌, ◌≤◌, length, take}
 use Rattle.snapshot.specs.Format.{checksum}
-use Rattle.snapshot.proofs.Laws.Sums.{sum_more}
 use Rattle.snapshot.proofs.sums.checksum.Given as goal
 
 abbrev pub invariant-loop-i : goal.invariant-loop-i

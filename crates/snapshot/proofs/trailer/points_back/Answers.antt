@@ -1,6 +1,5 @@
 -- `points_back` meets its contract.
 use Rattle.snapshot.specs.Tests.{points_back}
-use Rattle.std.proofs.Common.{rules}
 use Rattle.snapshot.proofs.trailer.points_back.Goals as goal
 
 pub returns : goal.returns

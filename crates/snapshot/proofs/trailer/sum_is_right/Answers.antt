@@ -1,6 +1,5 @@
 -- `sum_is_right` meets its contract.
 use Rattle.snapshot.specs.Tests.{sum_right}
-use Rattle.std.proofs.Common.{sym, arith, length-take-le, rules}
 use Rattle.snapshot.proofs.trailer.sum_is_right.Goals as goal
 
 pub returns : goal.returns

@@ -1,5 +1,5 @@
 -- `fill`: what the four puts leave is the snapshot.
-use Rattle.std.proofs.Common.{◌≡◌, ◌-◌, length, sym, arith, length-take-le, rules}
+use Rattle.std.proofs.Common.{◌≡◌, ◌-◌, length, arith, rules}
 use Rattle.snapshot.proofs.Laws.Filling.{filled}
 use Rattle.snapshot.proofs.writing.fill.Goals as goal
 

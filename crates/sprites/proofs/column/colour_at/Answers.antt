@@ -1,6 +1,6 @@
 -- `colour_at` meets its contract.
-use Rattle.std.proofs.Common.{arith, rules}
-use Rattle.sprites.proofs.Laws.Columns.{side-small, hits-left, hits-right}
+use Rattle.std.proofs.Common.{arith}
+use Rattle.sprites.proofs.Laws.Columns.{hits-left, hits-right}
 use Rattle.sprites.proofs.column.colour_at.Goals as goal
 
 pub returns-then-c-first : goal.returns-then-c-first

@@ -1,9 +1,7 @@
 -- `sprites_at` meets its contract.
-use Rattle.std.proofs.Common.{◌≡◌, ◌-◌, ◌<◌, ◌≤◌, take, drop, arith, rules}
+use Rattle.std.proofs.Common.{◌≡◌, ◌≤◌, take, drop}
 use Rattle.planes.specs.Origin.{frontmost}
 use Rattle.sprites.specs.Pixels.{visible, numbered_colours}
-use Rattle.sprites.specs.Scanned.{no_sprite}
-use Rattle.sprites.proofs.Laws.Draw.{one_lower, none-higher}
 use Rattle.sprites.proofs.column.sprites_at.Given as goal
 
 abbrev pub invariant-loop-k : goal.invariant-loop-k

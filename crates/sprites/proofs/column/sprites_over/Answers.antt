@@ -1,5 +1,5 @@
 -- `sprites_over` meets its contract.
-use Rattle.std.proofs.Common.{◌≡◌, ◌<◌, true, eqb, get_or, sym, ap, ◌∙◌, arith, lit<, rules}
+use Rattle.std.proofs.Common.{◌≡◌, ◌<◌, true, eqb, get_or, sym, ap, ◌∙◌, arith, lit<}
 use Rattle.planes.specs.Origin.{frontmost}
 use Rattle.sprites.specs.Pixels.{visible, numbered_colours}
 use Rattle.sprites.specs.Scan.{attribute_address, Found}

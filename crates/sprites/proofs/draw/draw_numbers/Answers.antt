@@ -1,7 +1,7 @@
 -- `draw_numbers` meets its contract.
-use Rattle.std.proofs.Common.{◌≡◌, ◌-◌, ◌<◌, ◌≤◌, get_or, take, drop, arith}
+use Rattle.std.proofs.Common.{◌-◌, get_or, arith}
 use Rattle.sprites.specs.Scanned.{no_sprite}
-use Rattle.sprites.proofs.Laws.Draw.{Numbered, numbered-none, numbered-one, numbered-long, one_lower, none-higher}
+use Rattle.sprites.proofs.Laws.Draw.{numbered-none, numbered-one, one_lower, none-higher}
 use Rattle.sprites.proofs.draw.draw_numbers.Goals as goal
 
 pub loop-k-init : goal.loop-k-init

@@ -1,7 +1,6 @@
 -- `draw_numbers` meets its contract.
-use Rattle.std.proofs.Common.{◌≡◌, ◌-◌, ◌<◌, ◌≤◌, get_or, take, drop, arith}
-use Rattle.sprites.specs.Scanned.{no_sprite}
-use Rattle.sprites.proofs.Laws.Draw.{Numbered, numbered-none, numbered-one, numbered-long, one_lower, none-higher}
+use Rattle.std.proofs.Common.{◌≤◌, take, drop}
+use Rattle.sprites.proofs.Laws.Draw.{Numbered}
 use Rattle.sprites.proofs.draw.draw_numbers.Given as goal
 
 abbrev pub invariant-loop-k : goal.invariant-loop-k

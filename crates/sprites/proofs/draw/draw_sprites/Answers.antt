@@ -1,7 +1,7 @@
 -- `draw_sprites` meets its contract.
-use Rattle.std.proofs.Common.{◌≡◌, ◌-◌, ◌<◌, ◌≤◌, get_or, take, drop, arith}
+use Rattle.std.proofs.Common.{◌-◌, get_or, arith}
 use Rattle.sprites.specs.Scanned.{no_sprite}
-use Rattle.sprites.proofs.Laws.Draw.{Over, over_none, over-one, one_lower, none-higher, line-long}
+use Rattle.sprites.proofs.Laws.Draw.{over_none, over-one, one_lower, none-higher}
 use Rattle.sprites.proofs.draw.draw_sprites.Goals as goal
 
 pub loop-k-init : goal.loop-k-init

@@ -1,7 +1,6 @@
 -- `draw_sprites` meets its contract.
-use Rattle.std.proofs.Common.{◌≡◌, ◌-◌, ◌<◌, ◌≤◌, get_or, take, drop, arith}
-use Rattle.sprites.specs.Scanned.{no_sprite}
-use Rattle.sprites.proofs.Laws.Draw.{Over, over_none, over-one, one_lower, none-higher, line-long}
+use Rattle.std.proofs.Common.{◌≤◌, take, drop}
+use Rattle.sprites.proofs.Laws.Draw.{Over}
 use Rattle.sprites.proofs.draw.draw_sprites.Given as goal
 
 abbrev pub invariant-loop-k : goal.invariant-loop-k

@@ -1,9 +1,7 @@
 -- `scan_dirty` meets its contract.
-use Rattle.std.proofs.Common.{◌≡◌, ℕ, ◌+◌, ◌-◌, ◌<◌, ◌≤◌, Bool, true, false, ◌||◌, eqb, get_or, sym, refl, ap, ◌∙◌, arith, lit<, rules}
+use Rattle.std.proofs.Common.{◌≡◌, ℕ, ◌+◌, ◌<◌, Bool, true, false, ◌||◌, eqb, get_or, sym, ap, ◌∙◌, arith, lit<}
 use Rattle.chip.specs.Map.{is_dirty}
-use Rattle.chip.proofs.Laws.State.{taken_not, left_not}
-use Rattle.fetches.specs.Fetch.{fetched, any_dirty}
-use Rattle.sprites.specs.Scan.{attribute_address, scan_of}
+use Rattle.sprites.specs.Scan.{attribute_address}
 use Rattle.sprites.specs.Shape as shape
 use Rattle.sprites.proofs.Laws.Bounds.{attribute-inside}
 use Rattle.sprites.proofs.Laws.Due.{rest_dirty, at-end, y-dirty, at-terminator, not-covering, at-fifth, drawn}
@@ -15,7 +13,7 @@ is_dirty-requires c =
     omega (arith, low)
 
 pub returns-then-is_dirty : goal.returns-then-is_dirty
-returns-then-is_dirty c =     sym (y-dirty c.args.r c.args.l c.args.vram.now c.args.map.now c.loop-n.n c.loop-n.drawn c.loop-n-test.true (sym (rw c.attribute_address-at.ensures at c.is_dirty.ensures) ∙ c.if-is_dirty.true)) ∙ c.loop-n.invariant.2
+returns-then-is_dirty c = sym (y-dirty c.args.r c.args.l c.args.vram.now c.args.map.now c.loop-n.n c.loop-n.drawn c.loop-n-test.true (sym (rw c.attribute_address-at.ensures at c.is_dirty.ensures) ∙ c.if-is_dirty.true)) ∙ c.loop-n.invariant.2
 
 pub bounds-vram-at : goal.bounds-vram-at
 bounds-vram-at c =

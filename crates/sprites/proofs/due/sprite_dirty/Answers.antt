@@ -1,5 +1,5 @@
 -- `sprite_dirty` meets its contract.
-use Rattle.std.proofs.Common.{◌<◌, ◌||◌, sym, ◌∙◌, ap₂, arith, lit<, rules}
+use Rattle.std.proofs.Common.{◌<◌, ◌||◌, sym, ◌∙◌, ap₂, arith, lit<}
 use Rattle.sprites.proofs.Laws.Due.{sprite-dirty}
 use Rattle.sprites.proofs.Laws.Bounds.{attribute-inside, pattern-inside}
 use Rattle.sprites.proofs.due.sprite_dirty.Goals as goal
@@ -25,7 +25,7 @@ is_dirty-requires-3 c =
     omega arith
 
 pub pattern_dirty-requires : goal.pattern_dirty-requires
-pattern_dirty-requires c =     (c.requires.2, rw c.sprite_pattern_address-at.ensures (pattern-inside c.args.r c.requires.0 c.args.l c.args.y _ c.requires.3 (omega (arith, c.shared_slice_known-3-1.given c.attribute_address-name_at.result))))
+pattern_dirty-requires c = (c.requires.2, rw c.sprite_pattern_address-at.ensures (pattern-inside c.args.r c.requires.0 c.args.l c.args.y _ c.requires.3 (omega (arith, c.shared_slice_known-3-1.given c.attribute_address-name_at.result))))
 
 pub returns : goal.returns
 returns c =

@@ -1,5 +1,5 @@
 -- `meet_from` meets its contract.
-use Rattle.std.proofs.Common.{arith, rules}
+use Rattle.std.proofs.Common.{arith}
 use Rattle.sprites.proofs.Laws.Rows.{rows-meet}
 use Rattle.sprites.proofs.meet.meet_from.Goals as goal
 

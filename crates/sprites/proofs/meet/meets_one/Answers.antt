@@ -1,7 +1,5 @@
 -- `meets_one` meets its contract.
-use Rattle.std.proofs.Common.{◌≡◌, ◌-◌, ◌≤◌, ◌&&◌, ◌||◌, get_or, take, drop, ◌∙◌, ap₂, arith}
-use Rattle.chip.specs.Ranges.{any_below}
-use Rattle.sprites.specs.Pixels.{hits, any_hits, reach}
+use Rattle.std.proofs.Common.{◌-◌, ◌||◌, get_or, take, drop, ◌∙◌, ap₂, arith}
 use Rattle.sprites.specs.Scanned.{no_sprite}
 use Rattle.sprites.proofs.Laws.Draw.{one_lower, none-higher}
 use Rattle.sprites.proofs.Laws.Meet.{meets-none, meets-more}

@@ -1,5 +1,5 @@
 -- `row_from` meets its contract.
-use Rattle.std.proofs.Common.{◌≡◌, ◌-◌, rules}
+use Rattle.std.proofs.Common.{◌≡◌, ◌-◌}
 use Rattle.chip.specs.Modes.{magnified}
 use Rattle.sprites.specs.Shape as shape
 use Rattle.sprites.proofs.Laws.Rows.{row-shifted, row-past}

@@ -1,5 +1,5 @@
 -- `two_meet` meets its contract.
-use Rattle.std.proofs.Common.{◌||◌, ◌∙◌, ap₂, rules}
+use Rattle.std.proofs.Common.{◌||◌, ◌∙◌, ap₂}
 use Rattle.sprites.proofs.Laws.Meet.{two-rows}
 use Rattle.sprites.proofs.meet.two_meet.Goals as goal
 

@@ -1,9 +1,8 @@
 -- `paint_bits` meets its contract.
-use Rattle.std.proofs.Common.{◌≡◌, ℕ, ◌+◌, ◌-◌, ◌<◌, ◌≤◌, max, cond, arith, rules}
-use Rattle.sprites.specs.Shape.{side}
+use Rattle.std.proofs.Common.{◌≡◌, ℕ, ◌<◌, ◌≤◌, cond, arith}
 use Rattle.sprites.specs.Pixels.{visible, hits}
 use Rattle.sprites.proofs.Laws.Columns.{hits-left, hits-right}
-use Rattle.sprites.proofs.Laws.Paint.{Swept, swept_none, swept-more, swept_all}
+use Rattle.sprites.proofs.Laws.Paint.{swept_none, swept_all}
 use Rattle.sprites.proofs.paint.paint_bits.Goals as goal
 
 pub loop-c-init : goal.loop-c-init

@@ -1,9 +1,7 @@
 -- `paint_bits` meets its contract.
-use Rattle.std.proofs.Common.{◌≡◌, ℕ, ◌+◌, ◌-◌, ◌<◌, ◌≤◌, max, cond, arith, rules}
-use Rattle.sprites.specs.Shape.{side}
+use Rattle.std.proofs.Common.{◌-◌, ◌≤◌, max, cond}
 use Rattle.sprites.specs.Pixels.{visible, hits}
-use Rattle.sprites.proofs.Laws.Columns.{hits-left, hits-right}
-use Rattle.sprites.proofs.Laws.Paint.{Swept, swept_none, swept-more, swept_all}
+use Rattle.sprites.proofs.Laws.Paint.{Swept}
 use Rattle.sprites.proofs.paint.paint_bits.Given as goal
 
 abbrev pub invariant-loop-c : goal.invariant-loop-c

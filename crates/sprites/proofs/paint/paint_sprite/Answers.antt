@@ -1,8 +1,8 @@
 -- `paint_sprite` meets its contract.
-use Rattle.std.proofs.Common.{get_or, ◌∙◌, rules}
-use Rattle.chip.proofs.Laws.Lists.{tabulated, tabulate-same}
+use Rattle.std.proofs.Common.{get_or}
+use Rattle.chip.proofs.Laws.Lists.{tabulated}
 use Rattle.sprites.specs.Pixels.{visible, hits}
-use Rattle.sprites.proofs.Laws.Paint.{clear-column, coloured-column}
+use Rattle.sprites.proofs.Laws.Paint.{clear-column}
 use Rattle.sprites.proofs.paint.paint_sprite.Goals as goal
 
 pub returns-then-s-eq0 : goal.returns-then-s-eq0

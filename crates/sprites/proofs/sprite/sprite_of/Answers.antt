@@ -1,5 +1,5 @@
 -- `sprite_of` meets its contract.
-use Rattle.std.proofs.Common.{◌+◌, ◌<◌, cond, sym, ◌∙◌, arith, lit<, rules}
+use Rattle.std.proofs.Common.{◌+◌, ◌<◌, cond, sym, ◌∙◌, arith, lit<}
 use Rattle.chip.specs.Modes.{large_sprites}
 use Rattle.fetches.specs.Fetch.{value}
 use Rattle.sprites.specs.Scan.{sprite_of}

@@ -2,7 +2,6 @@
 use Prim.Native.Nat.{◌≤◌, ◌<◌}
 use native.Mathlib.Omega.{arith}
 use Rattle.text.proofs.Laws.Numbers.{one-digit, two_digits, three-digits}
-use borrow.Author.Rules.{rules}
 use Rattle.text.proofs.numbers.put_decimal.Goals as goal
 
 pub returns-then-n-lt10-clause-value : goal.returns-then-n-lt10-clause-value

@@ -5,7 +5,6 @@ use lib.ListN.{length}
 use Rattle.text.specs.Numbers.{three_digits, decimal}
 use Rattle.text.proofs.Laws.Numbers.{length-decimal, no-thousands, thousands-first}
 use Rattle.text.proofs.Laws.Put.{after}
-use borrow.Author.Rules.{rules}
 use Rattle.text.proofs.numbers.put_long_decimal.Goals as goal
 
 pub returns-then-n-lt1000-clause-value : goal.returns-then-n-lt1000-clause-value
@@ -21,7 +20,7 @@ returns-then-n-lt1000-clause-out_after c =
     rw (no-thousands n small) (c.put_decimal.ensures.out_after)
 
 pub put_three_digits-requires : goal.put_three_digits-requires
-put_three_digits-requires c =     (omega arith, omega (arith, (length-decimal (c.args.n / 1000)).0, c.put_decimal-thousands.ensures.value, c.put_decimal-thousands.auto.out, c.requires))
+put_three_digits-requires c = (omega arith, omega (arith, (length-decimal (c.args.n / 1000)).0, c.put_decimal-thousands.ensures.value, c.put_decimal-thousands.auto.out, c.requires))
 
 pub returns-clause-value : goal.returns-clause-value
 returns-clause-value c =

@@ -9,14 +9,13 @@ use Rattle.text.specs.Numbers.{decimal}
 use Rattle.text.specs.Lines.{lines_word, bounds_text}
 use Rattle.text.proofs.Laws.Numbers.{length-decimal}
 use Rattle.text.proofs.Laws.Put.{after}
-use borrow.Author.Rules.{rules}
 use Rattle.text.proofs.range.put_bounds.Goals as goal
 
 pub put-b-requires : goal.put-b-requires
-put-b-requires c =     omega (arith, (length-decimal c.args.first).0, c.put_decimal-dash.ensures.value, c.put_decimal-dash.auto.out, c.put-a.ensures.value, c.put-a.auto.to, c.requires)
+put-b-requires c = omega (arith, (length-decimal c.args.first).0, c.put_decimal-dash.ensures.value, c.put_decimal-dash.auto.out, c.put-a.ensures.value, c.put-a.auto.to, c.requires)
 
 pub put_decimal-requires : goal.put_decimal-requires
-put_decimal-requires c =     (omega arith, omega (arith, c.put-b.ensures.value, c.put-b.auto.to, (length-decimal c.args.first).0, c.put_decimal-dash.ensures.value, c.put_decimal-dash.auto.out, c.put-a.ensures.value, c.put-a.auto.to, c.requires))
+put_decimal-requires c = (omega arith, omega (arith, c.put-b.ensures.value, c.put-b.auto.to, (length-decimal c.args.first).0, c.put_decimal-dash.ensures.value, c.put_decimal-dash.auto.out, c.put-a.ensures.value, c.put-a.auto.to, c.requires))
 
 pub returns-clause-value : goal.returns-clause-value
 unfolding bounds_text

@@ -11,14 +11,13 @@ use Rattle.text.specs.Lines.{bounds_text, runs_text, range_text}
 use Rattle.text.proofs.Laws.Numbers.{length-bounds}
 use Rattle.text.proofs.Laws.Runs.{length_runs}
 use Rattle.text.proofs.Laws.Put.{Put, after}
-use borrow.Author.Rules.{rules}
 use Rattle.text.proofs.range.put_range.Goals as goal
 
 pub put_runs-runs-requires : goal.put_runs-runs-requires
-put_runs-runs-requires c =     (c.requires.0, omega (arith, c.put_bounds-bounds.ensures.value, c.put_bounds-bounds.auto.out, length-bounds c.args.first c.args.last, c.requires.1))
+put_runs-runs-requires c = (c.requires.0, omega (arith, c.put_bounds-bounds.ensures.value, c.put_bounds-bounds.auto.out, length-bounds c.args.first c.args.last, c.requires.1))
 
 pub put-requires : goal.put-requires
-put-requires c =     omega (arith, c.put_runs-runs.ensures.value, c.put_runs-runs.auto.out, length_runs c.args.range.now, c.put_bounds-bounds.ensures.value, c.put_bounds-bounds.auto.out, length-bounds c.args.first c.args.last, c.requires.0, c.requires.1)
+put-requires c = omega (arith, c.put_runs-runs.ensures.value, c.put_runs-runs.auto.out, length_runs c.args.range.now, c.put_bounds-bounds.ensures.value, c.put_bounds-bounds.auto.out, length-bounds c.args.first c.args.last, c.requires.0, c.requires.1)
 
 pub returns-clause-value : goal.returns-clause-value
 unfolding range_text

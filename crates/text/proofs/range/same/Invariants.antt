@@ -1,12 +1,8 @@
 -- `same`: the bytes before `i` are the same, so the rest decides.
-use Prim.Native.Nat.{◌≤◌, ◌-◌, ◌+◌}
-use native.Mathlib.Omega.{arith}
-use mathlib.Core.Path.{◌≡◌, refl, sym, ap, ◌∙◌}
-use mathlib.Core.Bool.{Bool, ◌&&◌}
-use borrow.Author.Tests.{eq-eqb, ne_eqb}
+use Prim.Native.Nat.{◌≤◌, ◌-◌}
+use mathlib.Core.Path.{◌≡◌}
 use lib.ListN.{length, drop}
 use Rattle.text.specs.Runs as join
-use Rattle.text.proofs.Laws.Runs.{same_from, same_end}
 use Rattle.text.proofs.range.same.Given as goal
 
 abbrev pub invariant-loop-i : goal.invariant-loop-i

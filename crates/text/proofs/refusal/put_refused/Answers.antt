@@ -9,11 +9,10 @@ use Rattle.text.specs.Numbers.{decimal}
 use Rattle.text.specs.Lines.{refused_word, refused_text}
 use Rattle.text.proofs.Laws.Numbers.{length-decimal}
 use Rattle.text.proofs.Laws.Put.{after}
-use borrow.Author.Rules.{rules}
 use Rattle.text.proofs.refusal.put_refused.Goals as goal
 
 pub put-requires : goal.put-requires
-put-requires c =     omega (arith, (length-decimal c.args.number).0, c.put_decimal-b.ensures.value, c.put_decimal-b.auto.out, c.put-a.ensures.value, c.put-a.auto.to, c.requires)
+put-requires c = omega (arith, (length-decimal c.args.number).0, c.put_decimal-b.ensures.value, c.put_decimal-b.auto.out, c.put-a.ensures.value, c.put-a.auto.to, c.requires)
 
 pub returns-clause-value : goal.returns-clause-value
 unfolding refused_text

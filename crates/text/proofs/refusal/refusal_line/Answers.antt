@@ -2,7 +2,6 @@
 use native.Mathlib.Omega.{arith}
 use mathlib.Core.Path.{refl}
 use Rattle.text.proofs.Laws.Calls.{refused-short, refused-fits}
-use borrow.Author.Rules.{rules}
 use Rattle.text.proofs.refusal.refusal_line.Goals as goal
 
 pub returns-then-out-lt12-clause-value : goal.returns-then-out-lt12-clause-value

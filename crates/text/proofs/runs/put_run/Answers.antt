@@ -7,7 +7,6 @@ use Rattle.text.specs.Numbers.{decimal}
 use Rattle.text.specs.Lines.{run_text}
 use Rattle.text.proofs.Laws.Numbers.{length-decimal}
 use Rattle.text.proofs.Laws.Put.{after}
-use borrow.Author.Rules.{rules}
 use Rattle.text.proofs.runs.put_run.Goals as goal
 
 pub returns-clause-value : goal.returns-clause-value
@@ -39,7 +38,7 @@ returns-clause-out_after c =
     all.1
 
 pub put-coloured-requires : goal.put-coloured-requires
-put-coloured-requires c =     omega (arith, (length-decimal c.args.count).0, c.put_decimal-star.ensures.value, c.put_decimal-star.auto.out, c.put-counted.ensures.value, c.put-counted.auto.to, c.requires.1)
+put-coloured-requires c = omega (arith, (length-decimal c.args.count).0, c.put_decimal-star.ensures.value, c.put_decimal-star.auto.out, c.put-counted.ensures.value, c.put-counted.auto.to, c.requires.1)
 
 pub put_decimal-requires : goal.put_decimal-requires
-put_decimal-requires c =     (omega arith, omega (arith, c.put-coloured.ensures.value, c.put-coloured.auto.to, (length-decimal c.args.count).0, c.put_decimal-star.ensures.value, c.put_decimal-star.auto.out, c.put-counted.ensures.value, c.put-counted.auto.to, c.requires.1))
+put_decimal-requires c = (omega arith, omega (arith, c.put-coloured.ensures.value, c.put-coloured.auto.to, (length-decimal c.args.count).0, c.put_decimal-star.ensures.value, c.put_decimal-star.auto.out, c.put-counted.ensures.value, c.put-counted.auto.to, c.requires.1))

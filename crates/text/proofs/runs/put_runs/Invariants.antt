@@ -1,7 +1,6 @@
 -- `put_runs`: what is left to write, put in behind what is written, gives the line's runs.
 use Prim.Native.Nat.{◌-◌}
-use native.Mathlib.Omega.{arith}
-use Rattle.text.proofs.Laws.Going.{Going, fits, going_start, going_on, going-over, going_end}
+use Rattle.text.proofs.Laws.Going.{Going}
 use Rattle.text.proofs.runs.put_runs.Given as goal
 
 abbrev pub invariant-loop-i : goal.invariant-loop-i

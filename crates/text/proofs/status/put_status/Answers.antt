@@ -6,7 +6,6 @@ use lib.ListN.{length}
 use Rattle.text.specs.Numbers.{two_hex}
 use Rattle.text.specs.Lines.{status_word, status_text}
 use Rattle.text.proofs.Laws.Put.{after}
-use borrow.Author.Rules.{rules}
 use Rattle.text.proofs.status.put_status.Goals as goal
 
 pub returns-clause-value : goal.returns-clause-value

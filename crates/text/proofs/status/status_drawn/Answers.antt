@@ -1,9 +1,8 @@
 -- `status_drawn` meets its contract.
-use Prim.Native.Nat.{ℕ, ◌+◌, ◌-◌, ◌≤◌}
+use Prim.Native.Nat.{ℕ, ◌+◌}
 use native.Mathlib.Numerals.{add-one}
 use native.Mathlib.Omega.{arith}
-use mathlib.Core.Path.{◌≡◌, refl, sym, ap, ap₂, ◌∙◌}
-use lib.ListN.{length}
+use mathlib.Core.Path.{◌≡◌, refl, sym, ap₂, ◌∙◌}
 use Rattle.chip.specs.Lists.{tabulate}
 use Rattle.scanline.specs.Notes.{status_after, status_through}
 use Rattle.scanline.specs.Calls.{note_at}

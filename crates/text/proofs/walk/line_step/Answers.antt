@@ -1,9 +1,6 @@
 -- `line_step` meets its contract.
-use native.Mathlib.Omega.{arith}
-use mathlib.Core.Path.{◌≡◌, sym, ◌∙◌}
-use lib.ListN.{length}
+use mathlib.Core.Path.{sym, ◌∙◌}
 use Rattle.text.proofs.Laws.Steps.{goes_on, starts-next}
-use borrow.Author.Rules.{rules}
 use Rattle.text.proofs.walk.line_step.Goals as goal
 
 pub returns-then-same-clause-value : goal.returns-then-same-clause-value

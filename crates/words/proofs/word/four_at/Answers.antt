@@ -1,5 +1,4 @@
 -- `four_at` meets its contract.
-use borrow.Author.Rules.{rules}
 use Rattle.words.proofs.Laws.Loaded.{loaded-more}
 use Rattle.words.proofs.word.four_at.Goals as goal
 

@@ -1,6 +1,5 @@
 -- `one_at` meets its contract.
 use native.Mathlib.Omega.{arith}
-use borrow.Author.Rules.{rules}
 use Rattle.words.proofs.Laws.Loaded.{loaded-one}
 use Rattle.words.proofs.word.one_at.Goals as goal
 

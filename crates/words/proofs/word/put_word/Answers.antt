@@ -1,8 +1,5 @@
 -- `put_word` meets its contract.
-use native.Mathlib.Omega.{arith}
 use native.Mathlib.Nat.{add-zero, div-one}
-use borrow.Author.Rules.{rules}
-use lib.ListN.{length-set}
 use Rattle.words.specs.Words.{byte_of}
 use Rattle.words.proofs.Laws.Stored.{stored-painted}
 use Rattle.words.proofs.word.put_word.Goals as goal

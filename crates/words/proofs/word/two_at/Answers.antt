@@ -1,5 +1,4 @@
 -- `two_at` meets its contract.
-use borrow.Author.Rules.{rules}
 use Rattle.words.proofs.Laws.Loaded.{loaded-more}
 use Rattle.words.proofs.word.two_at.Goals as goal
 

@@ -1,5 +1,4 @@
 -- `word_at` meets its contract.
-use borrow.Author.Rules.{rules}
 use Rattle.words.proofs.Laws.Loaded.{loaded-more}
 use Rattle.words.proofs.word.word_at.Goals as goal
 

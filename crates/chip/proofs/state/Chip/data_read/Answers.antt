@@ -1,7 +1,5 @@
 -- `data_read` meets its contract.
-use borrow.Author.Tests.{eq-eqb, ne_eqb}
-use Rattle.chip.proofs.Laws.State.{taken_not, left_not, address-in}
-use borrow.Author.Rules.{rules}
+use Rattle.chip.proofs.Laws.State.{address-in}
 use mathlib.Core.Path.{sym, ◌∙◌}
 use Rattle.chip.proofs.state.Chip.data_read.Goals as goal
 

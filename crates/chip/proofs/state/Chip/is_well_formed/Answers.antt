@@ -1,6 +1,5 @@
 -- `is_well_formed` meets its contract.
 use Rattle.chip.specs.State.{well_formed}
-use borrow.Author.Rules.{rules}
 use Rattle.chip.proofs.state.Chip.is_well_formed.Goals as goal
 
 pub returns : goal.returns

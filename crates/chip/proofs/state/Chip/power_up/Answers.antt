@@ -1,9 +1,8 @@
 -- `power_up` meets its contract.
 use native.Mathlib.Omega.{arith}
 use lib.ListN.{length}
-use mathlib.Core.Path.{◌≡◌, refl}
-use borrow.Author.Tests.{eq-eqb, ne_eqb}
-use borrow.Author.Rules.{rules}
+use mathlib.Core.Path.{◌≡◌}
+use borrow.Author.Tests.{eq-eqb}
 use Rattle.chip.proofs.state.Chip.power_up.Goals as goal
 
 pub returns-clause-vram_after : goal.returns-clause-vram_after

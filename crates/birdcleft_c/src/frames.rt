@@ -1,0 +1,37 @@
+// Full draw and refresh.
+ghost use Rattle.std.specs.Prelude.{◌≡◌};
+ghost use Rattle.birdcleft.specs.Frames as frames;
+
+#[unsafe(no_mangle)]
+pub extern "C" fn vdp_full_draw(
+    block: &mut [u8],
+    vram: &[u8],
+    map: &mut [u8],
+    frame: &mut [u8],
+    notes: &mut [u8],
+) -> u32
+    ensures value { result ≡ (frames.full_draw block.old vram.now map.old frame.old notes.old).result }
+    ensures block_after { block.new ≡ (frames.full_draw block.old vram.now map.old frame.old notes.old).block }
+    ensures map_after { map.new ≡ frames.draw_map block.old vram.now map.old frame.old notes.old }
+    ensures frame_after { frame.new ≡ frames.full_draw_frame block.old vram.now map.old frame.old notes.old }
+    ensures notes_after { notes.new ≡ frames.full_draw_notes block.old vram.now map.old frame.old notes.old }
+{
+    birdcleft::vdp_full_draw(block, vram, map, frame, notes)
+}
+
+#[unsafe(no_mangle)]
+pub extern "C" fn vdp_refresh(
+    block: &mut [u8],
+    vram: &[u8],
+    map: &mut [u8],
+    frame: &mut [u8],
+    notes: &mut [u8],
+) -> u32
+    ensures value { result ≡ (frames.refresh block.old vram.now map.old frame.old notes.old).result }
+    ensures block_after { block.new ≡ (frames.refresh block.old vram.now map.old frame.old notes.old).block }
+    ensures map_after { map.new ≡ frames.draw_map block.old vram.now map.old frame.old notes.old }
+    ensures frame_after { frame.new ≡ frames.refresh_frame block.old vram.now map.old frame.old notes.old }
+    ensures notes_after { notes.new ≡ frames.refresh_notes block.old vram.now map.old frame.old notes.old }
+{
+    birdcleft::vdp_refresh(block, vram, map, frame, notes)
+}
