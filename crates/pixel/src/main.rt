@@ -11,9 +11,9 @@ use output::pixel;
 use std::env::{Env, FillError};
 
 // How many words the program is called with, its own name among them.
-fn arg_count<E: Env>(env: &E) -> usize {
+fn arg_count(rt: HostRuntime) -> usize {
     for i in 0..usize::MAX {
-        if let Err(FillError::NotPresent) = env.arg(i, &mut []) {
+        if let Err(FillError::NotPresent) = rt.arg(i, &mut []) {
             return i;
         }
     }
@@ -22,7 +22,7 @@ fn arg_count<E: Env>(env: &E) -> usize {
 
 // Where the arguments are wrong nothing is read, so that the usage shows at once. (How long one can be: docs/DECISIONS.md.)
 fn main(rt: HostRuntime) {
-    let argc = arg_count(&rt);
+    let argc = arg_count(rt);
     let mut first = [0u8; 131072];
     let first_count = rt.arg(1, &mut first).unwrap_or(0);
     let mut second = [0u8; 131072];

@@ -3,7 +3,7 @@ use Prim.Native.Nat.{ℕ, ◌<◌}
 use native.Mathlib.Omega.{arith}
 use mathlib.Core.Path.{◌≡◌, refl, sym, ap, ◌∙◌}
 use mathlib.Core.Bool.{Bool, true, false, cond}
-use mathlib.Core.List.{List, []}
+use mathlib.Core.List.{List}
 use lib.ListN.{length, length-replicate}
 use lib.Seq.{take_all}
 use borrow.Author.Tests.{eq-eqb, ne_eqb}
@@ -13,12 +13,9 @@ use Rattle.chip.specs.Refusals.{number_of, is_accepted, if_accepted}
 use Rattle.chip.specs.declared.refusal.Refusal.{Refusal}
 use Rattle.chip.specs.declared.refusal.Refusal.TheVariants.{Accepted, SnapshotLength}
 use Rattle.chip.proofs.Laws.Refusals.{is-accepted, differ, the-new}
-use Rattle.snapshot.specs.Format.{snapshot_of}
 use Rattle.snapshot.specs.Calls.{read_refusal}
-use Rattle.port_log.specs.declared.running.Ran.{Ran}
 use Rattle.text.specs.Lines.{refused_text}
-use Rattle.replay.specs.Report.{report_text}
-use Rattle.replay.specs.Streams.{snapshot_part, ran, vram_after, snapshot_refusal, replay_refusal, Streams, report_of, after_run, after_refusal, replayed, written_of}
+use Rattle.replay.specs.Streams.{snapshot_part, ran, snapshot_refusal, replay_refusal, after_run, after_refusal, replayed, written_of}
 use Rattle.replay.specs.declared.streams.Written.{Written}
 
 wrong-length : (vram s : List ℕ) → length vram ≡ 16384 → (length s ≡ 16406 → ⊥) → read_refusal vram s ≡ SnapshotLength

@@ -1,13 +1,11 @@
 -- `is_number` meets its contract.
-use Prim.Native.Nat.{◌≤◌, ◌<◌, ◌-◌}
+use Prim.Native.Nat.{◌<◌}
 use native.Mathlib.Omega.{arith}
-use mathlib.Core.Path.{◌≡◌, refl, ap, ◌∙◌}
+use mathlib.Core.Path.{◌≡◌, ap, ◌∙◌}
 use mathlib.Core.Bool.{false, true}
-use borrow.Author.Rules.{rules}
-use borrow.Author.Tests.{eq-eqb, ne_eqb}
-use lib.ListN.{length, drop, drop_of_length-le}
+use borrow.Author.Tests.{ne_eqb}
+use lib.ListN.{length, drop_of_length-le}
 use Rattle.chip.proofs.Laws.Ranges.{and-false}
-use Rattle.chip.proofs.Laws.State.{taken_not, left_not}
 use Rattle.pixel.specs.Arguments.{all_digits}
 use Rattle.pixel.proofs.Laws.Arguments.{digits-on}
 use mathlib.Core.Path.{sym}

@@ -1,11 +1,9 @@
 -- `number_in` meets its contract.
-use Prim.Native.Nat.{ℕ, ◌+◌, ◌*◌, ◌-◌, ◌≤◌, min}
+use Prim.Native.Nat.{ℕ, ◌+◌, ◌*◌, ◌-◌, min}
 use native.Mathlib.Omega.{arith}
-use mathlib.Core.Path.{◌≡◌, refl, sym, ap, ◌∙◌}
-use mathlib.Core.Bool.{true, not, ◌&&◌}
-use lib.Dec.{eqb}
-use borrow.Author.Rules.{rules}
-use lib.ListN.{length, get_or, drop, drop_of_length-le}
+use mathlib.Core.Path.{◌≡◌, sym, ap, ◌∙◌}
+use mathlib.Core.Bool.{true, ◌&&◌}
+use lib.ListN.{get_or, drop, drop_of_length-le}
 use Rattle.chip.proofs.Laws.Ranges.{and_left, and_right}
 use Rattle.pixel.specs.Arguments.{is_digit, all_digits, with_digits, number_in}
 use Rattle.pixel.proofs.Laws.Arguments.{digits-on, number-on, capped}

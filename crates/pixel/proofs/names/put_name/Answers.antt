@@ -1,13 +1,12 @@
 -- `put_name` meets its contract.
-use Prim.Native.Nat.{ℕ, ◌+◌, ◌-◌, ◌%◌}
+use Prim.Native.Nat.{ℕ, ◌+◌, ◌%◌}
 use native.Mathlib.Omega.{arith}
 use mathlib.Core.Path.{ap, ◌∙◌}
 use mathlib.Core.List.{List}
-use lib.ListN.{length, drop, length-take}
+use lib.ListN.{length}
 use Rattle.chip.specs.Lists.{put_at}
 use Rattle.pixel.specs.Names.{name_of}
-use Rattle.pixel.proofs.Laws.Names.{letters, from, to, name-right, from-small, to-small}
-use borrow.Author.Rules.{rules}
+use Rattle.pixel.proofs.Laws.Names.{name-right}
 use Rattle.pixel.proofs.names.put_name.Goals as goal
 
 pub returns-clause-value : goal.returns-clause-value

@@ -6,7 +6,6 @@ use lib.ListN.{length}
 use Rattle.text.proofs.Laws.Put.{after}
 use Rattle.pixel.specs.Origins.{source_text, origin_text}
 use Rattle.pixel.proofs.Laws.Origins.{source-short}
-use borrow.Author.Rules.{rules}
 use Rattle.pixel.proofs.origins.put_origin.Goals as goal
 
 pub put-requires : goal.put-requires

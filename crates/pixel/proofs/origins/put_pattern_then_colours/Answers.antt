@@ -5,11 +5,10 @@ use lib.ListN.{length}
 use Rattle.text.proofs.Laws.Numbers.{length-long}
 use Rattle.text.proofs.Laws.Put.{after}
 use Rattle.pixel.specs.Origins.{pattern_at, colours_at, labelled}
-use borrow.Author.Rules.{rules}
 use Rattle.pixel.proofs.origins.put_pattern_then_colours.Goals as goal
 
 pub put_labelled-requires : goal.put_labelled-requires
-put_labelled-requires c =     (omega (arith, c.requires.1), omega (arith, length-long c.args.a.pattern, c.put_labelled-behind.ensures.value, c.put_labelled-behind.auto.out, c.requires.2))
+put_labelled-requires c = (omega (arith, c.requires.1), omega (arith, length-long c.args.a.pattern, c.put_labelled-behind.ensures.value, c.put_labelled-behind.auto.out, c.requires.2))
 
 pub returns-clause-out_after : goal.returns-clause-out_after
 returns-clause-out_after c =

@@ -8,11 +8,10 @@ use Rattle.planes.specs.Addresses.{addresses_at}
 use Rattle.text.proofs.Laws.Numbers.{length-long}
 use Rattle.text.proofs.Laws.Put.{after}
 use Rattle.pixel.specs.Origins.{name_at, labelled, tables_text, plane_text}
-use borrow.Author.Rules.{rules}
 use Rattle.pixel.proofs.origins.put_plane.Goals as goal
 
 pub put_tables-requires : goal.put_tables-requires
-put_tables-requires c =     (c.addresses_at-a.ensures.name_bound.1, c.addresses_at-a.ensures.name_bound.2, omega (arith, length-long c.addresses_at-a.result.name, c.put_labelled-behind.ensures.value, c.put_labelled-behind.auto.out, c.requires.3))
+put_tables-requires c = (c.addresses_at-a.ensures.name_bound.1, c.addresses_at-a.ensures.name_bound.2, omega (arith, length-long c.addresses_at-a.result.name, c.put_labelled-behind.ensures.value, c.put_labelled-behind.auto.out, c.requires.3))
 
 pub returns-clause-value : goal.returns-clause-value
 unfolding plane_text

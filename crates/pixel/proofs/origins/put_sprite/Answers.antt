@@ -9,7 +9,6 @@ use Rattle.sprites.proofs.Laws.Bounds.{attribute-inside}
 use Rattle.text.proofs.Laws.Numbers.{length-long}
 use Rattle.text.proofs.Laws.Put.{after}
 use Rattle.pixel.specs.Origins.{sprite, attributes_at, labelled, sprite_text}
-use borrow.Author.Rules.{rules}
 use Rattle.pixel.proofs.origins.put_sprite.Goals as goal
 
 pub put_labelled-requires : goal.put_labelled-requires

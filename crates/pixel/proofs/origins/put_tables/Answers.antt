@@ -6,11 +6,10 @@ use Rattle.text.proofs.Laws.Numbers.{length-long}
 use Rattle.text.proofs.Laws.Put.{after}
 use Rattle.pixel.specs.Origins.{pattern_at, register_colours, labelled, tables_text}
 use Rattle.pixel.proofs.Laws.Origins.{put-none}
-use borrow.Author.Rules.{rules}
 use Rattle.pixel.proofs.origins.put_tables.Goals as goal
 
 pub put-requires : goal.put-requires
-put-requires c =     omega (arith, length-long c.args.a.pattern, c.put_labelled-end.ensures.value, c.put_labelled-end.auto.out, c.requires.2)
+put-requires c = omega (arith, length-long c.args.a.pattern, c.put_labelled-end.ensures.value, c.put_labelled-end.auto.out, c.requires.2)
 
 pub returns-in-Blank-clause-value : goal.returns-in-Blank-clause-value
 unfolding tables_text

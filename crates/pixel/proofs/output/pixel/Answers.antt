@@ -2,9 +2,8 @@
 use Prim.Native.Nat.{ℕ, min}
 use native.Mathlib.Nat.{zero-add}
 use mathlib.Core.Path.{◌≡◌, sym, ap, ap₂, ◌∙◌}
-use mathlib.Core.Bool.{true, false, ◌&&◌}
+use mathlib.Core.Bool.{true, false}
 use mathlib.Core.List.{List}
-use lib.Dec.{eqb}
 use lib.ListN.{length}
 use borrow.Author.Tests.{eq-eqb, ne_eqb}
 use Rattle.chip.specs.Lists.{put_at}
@@ -14,14 +13,11 @@ use Rattle.chip.specs.State.{power_up_state}
 use Rattle.chip.specs.declared.refusal.Answer.{Answer}
 use Rattle.chip.specs.declared.refusal.Refusal.TheVariants.{Accepted}
 use Rattle.chip.specs.declared.state.Chip.{Chip}
-use Rattle.chip.proofs.Laws.Ranges.{and_left, and_right}
 use Rattle.chip.proofs.Laws.Refusals.{is-accepted}
-use Rattle.chip.proofs.Laws.State.{taken_not, left_not}
 use Rattle.snapshot.specs.Calls.{read_refusal, read_snapshot, read_vram}
-use Rattle.pixel.specs.Arguments.{is_number, number_in, rightly_called}
+use Rattle.pixel.specs.Arguments.{number_in, rightly_called}
 use Rattle.pixel.specs.Output.{point_text}
 use Rattle.pixel.proofs.Laws.Output.{limit, usage-written, file-refused, capped-point-written}
-use borrow.Author.Rules.{rules}
 use Rattle.pixel.proofs.output.pixel.Goals as goal
 
 pub returns-then-not-rightly_called-clause-value : goal.returns-then-not-rightly_called-clause-value

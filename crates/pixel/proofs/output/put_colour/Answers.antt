@@ -12,7 +12,6 @@ use Rattle.text.proofs.Laws.Put.{after}
 use Rattle.pixel.specs.Names.{name_of}
 use Rattle.pixel.specs.Output.{colour_text}
 use Rattle.pixel.proofs.Laws.Names.{name-short}
-use borrow.Author.Rules.{rules}
 use Rattle.pixel.proofs.output.put_colour.Goals as goal
 
 pub put-b-requires : goal.put-b-requires

@@ -17,7 +17,6 @@ use Rattle.text.proofs.Laws.Put.{after}
 use Rattle.pixel.specs.Origins.{origin_text}
 use Rattle.pixel.specs.Output.{colour_text}
 use Rattle.pixel.proofs.Laws.Output.{colour-short, point-refused, point-shown, point-given}
-use borrow.Author.Rules.{rules}
 use Rattle.pixel.proofs.output.put_point.Goals as goal
 
 pub returns-then-number-ne0-clause-value : goal.returns-then-number-ne0-clause-value

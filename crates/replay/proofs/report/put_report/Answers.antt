@@ -10,7 +10,6 @@ use Rattle.text.specs.Numbers.{decimal, long_decimal}
 use Rattle.text.proofs.Laws.Numbers.{length-decimal, length-long}
 use Rattle.text.proofs.Laws.Put.{after}
 use Rattle.replay.specs.Report.{done_word, place_word, found_word, report_text}
-use borrow.Author.Rules.{rules}
 use Rattle.replay.proofs.report.put_report.Goals as goal
 
 pub put-c-requires : goal.put-c-requires

@@ -5,7 +5,7 @@ use mathlib.Core.Path.{◌≡◌, refl, sym, ap, ◌∙◌}
 use mathlib.Core.Bool.{false}
 use mathlib.Core.List.{List}
 use lib.ListN.{length, take, drop, length-drop}
-use lib.Seq.{length-take-le, take_all}
+use lib.Seq.{take_all}
 use borrow.Author.Tests.{eq-eqb, ne_eqb}
 use Rattle.chip.specs.State.{Bytes, power_up_state}
 use Rattle.chip.specs.Map.{map_size}
@@ -21,7 +21,6 @@ use Rattle.port_log.specs.declared.running.Ran.{Ran}
 use Rattle.replay.specs.Streams.{snapshot_part, log_part, clear_list, ran, vram_after, replay_refusal, snapshot_refusal}
 use Rattle.replay.proofs.Laws.Refused.{too_short, by-snapshot, by-run, refused-writes}
 use Rattle.replay.proofs.Laws.Accepted.{ran-from, vram-from, accepted-writes}
-use borrow.Author.Rules.{rules}
 use Rattle.replay.proofs.streams.replay.Goals as goal
 
 pub returns-then-input-lt16406-clause-value : goal.returns-then-input-lt16406-clause-value

@@ -1,7 +1,5 @@
 -- `print_runs` is safe and ends.
 use Prim.Native.Nat.{◌-◌, ◌≤◌}
-use native.Mathlib.Omega.{arith}
-use borrow.Author.Rules.{rules}
 use lib.ListN.{length}
 use Rattle.scenes.proofs.print.print_runs.Given as goal
 

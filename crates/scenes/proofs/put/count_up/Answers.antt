@@ -1,17 +1,14 @@
 -- `count_up`: the first `i` bytes are put in.
-use Prim.Native.Nat.{◌≤◌, ◌-◌, ◌%◌}
 use native.Mathlib.Omega.{arith}
 use mathlib.Core.Path.{refl}
-use Rattle.chip.specs.Lists.{tabulate}
-use Rattle.scenes.proofs.Laws.Put.{Put, put-none, put-long, told_more, told-all}
-use borrow.Author.Rules.{rules}
+use Rattle.scenes.proofs.Laws.Put.{put-none, told_more, told-all}
 use Rattle.scenes.proofs.put.count_up.Goals as goal
 
 pub loop-i-init : goal.loop-i-init
 loop-i-init c = (omega arith, put-none)
 
 pub loop-i-preserved : goal.loop-i-preserved
-loop-i-preserved c =     (omega arith, told_more _ (omega arith) refl refl c.store.ensures c.loop-i.invariant.1)
+loop-i-preserved c = (omega arith, told_more _ (omega arith) refl refl c.store.ensures c.loop-i.invariant.1)
 
 pub returns : goal.returns
 returns c = told-all _ (omega arith) c.loop-i.invariant.1

@@ -1,11 +1,8 @@
 -- `mix`: the first `i` bytes are put in.
 use Prim.Native.Nat.{◌≤◌, ◌-◌}
-use native.Mathlib.Omega.{arith}
-use mathlib.Core.Path.{refl}
 use Rattle.chip.specs.Lists.{tabulate}
 use Rattle.scenes.specs.Put.{mixed}
-use Rattle.scenes.proofs.Laws.Put.{Put, put-none, put-long, told_more, told-all}
-use borrow.Author.Rules.{rules}
+use Rattle.scenes.proofs.Laws.Put.{Put}
 use Rattle.scenes.proofs.put.mix.Given as goal
 
 abbrev pub invariant-loop-i : goal.invariant-loop-i

@@ -1,14 +1,11 @@
 -- `put`: the first `i` bytes are put in.
-use Prim.Native.Nat.{◌≤◌, ◌-◌}
 use native.Mathlib.Omega.{arith}
 use mathlib.Core.Path.{refl}
-use Rattle.scenes.proofs.Laws.Put.{Put, put-none, put-more, put_all, put-long}
-use lib.ListN.{length}
-use borrow.Author.Rules.{rules}
+use Rattle.scenes.proofs.Laws.Put.{put-none, put-more}
 use Rattle.scenes.proofs.put.put.Goals as goal
 
 pub loop-i-init : goal.loop-i-init
 loop-i-init c = (omega arith, put-none)
 
 pub loop-i-preserved : goal.loop-i-preserved
-loop-i-preserved c =     (omega arith, put-more (omega arith) refl refl c.store.ensures c.loop-i.invariant.1)
+loop-i-preserved c = (omega arith, put-more (omega arith) refl refl c.store.ensures c.loop-i.invariant.1)

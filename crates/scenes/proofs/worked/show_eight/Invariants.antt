@@ -1,7 +1,5 @@
 -- `show_eight` is safe and ends.
 use Prim.Native.Nat.{◌-◌}
-use native.Mathlib.Omega.{arith}
-use borrow.Author.Rules.{rules}
 use Rattle.scenes.proofs.worked.show_eight.Given as goal
 
 abbrev pub invariant-loop-number : goal.invariant-loop-number
