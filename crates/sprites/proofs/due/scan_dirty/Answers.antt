@@ -1,5 +1,5 @@
 -- `scan_dirty` meets its contract.
-use Rattle.std.proofs.Common.{◌≡◌, ℕ, ◌+◌, ◌<◌, Bool, true, false, ◌||◌, eqb, get_or, sym, ap, ◌∙◌, arith, lit<}
+use Rattle.std.proofs.Common.{◌≡◌, ℕ, ◌+◌, ◌<◌, Bool, true, false, ◌||◌, eqb, get_or, sym, ap, ◌∙◌, arith, rules, lit<}
 use Rattle.chip.specs.Map.{is_dirty}
 use Rattle.sprites.specs.Scan.{attribute_address}
 use Rattle.sprites.specs.Shape as shape
@@ -28,7 +28,7 @@ returns-then-is_terminator c =
 pub loop-n-preserved-then-not-covering : goal.loop-n-preserved-then-not-covering
 loop-n-preserved-then-not-covering c =
     let Y : ℕ = get_or c.args.vram.now (attribute_address c.args.r c.loop-n.n 0) 0 in
-    let more : eqb (Y) 208 ≡ false = let no : c.is_terminator.result ≡ false = c.if-is_terminator.false in
+    let more : eqb (Y) 208 ≡ false = let no : c.is_terminator.result ≡ false = search rules in
     rw c.attribute_address-at.ensures at (sym c.is_terminator.ensures ∙ no) in
     let cov : c.covers-covering.result ≡ shape.covers c.args.r c.args.l (Y) = rw c.attribute_address-at.ensures at c.covers-covering.ensures in
     let clean : is_dirty c.args.map.now (attribute_address c.args.r c.loop-n.n 0) ≡ false = sym (rw c.attribute_address-at.ensures at c.is_dirty.ensures) ∙ c.if-is_dirty.false in
@@ -39,7 +39,7 @@ returns-then-drawn-eq4 c =
     let Y : ℕ = get_or c.args.vram.now (attribute_address c.args.r c.loop-n.n 0) 0 in
     let cov : c.covers-covering.result ≡ shape.covers c.args.r c.args.l (Y) = rw c.attribute_address-at.ensures at c.covers-covering.ensures in
     let does : shape.covers c.args.r c.args.l (Y) ≡ true = (sym (cov) ∙ c.if-not-covering.false) in
-    let more : eqb (Y) 208 ≡ false = let no : c.is_terminator.result ≡ false = c.if-is_terminator.false in
+    let more : eqb (Y) 208 ≡ false = let no : c.is_terminator.result ≡ false = search rules in
     rw c.attribute_address-at.ensures at (sym c.is_terminator.ensures ∙ no) in
     let clean : is_dirty c.args.map.now (attribute_address c.args.r c.loop-n.n 0) ≡ false = sym (rw c.attribute_address-at.ensures at c.is_dirty.ensures) ∙ c.if-is_dirty.false in
     sym (at-fifth c.args.r c.args.l c.args.vram.now c.args.map.now c.loop-n.n c.loop-n.drawn c.loop-n-test.true (clean) (more) (does) c.if-drawn-eq4.true) ∙ c.loop-n.invariant.2
@@ -49,13 +49,13 @@ returns-then-sprite_dirty c =
     let Y : ℕ = get_or c.args.vram.now (attribute_address c.args.r c.loop-n.n 0) 0 in
     let cov : c.covers-covering.result ≡ shape.covers c.args.r c.args.l (Y) = rw c.attribute_address-at.ensures at c.covers-covering.ensures in
     let does : shape.covers c.args.r c.args.l (Y) ≡ true = (sym (cov) ∙ c.if-not-covering.false) in
-    let more : eqb (Y) 208 ≡ false = let no : c.is_terminator.result ≡ false = c.if-is_terminator.false in
+    let more : eqb (Y) 208 ≡ false = let no : c.is_terminator.result ≡ false = search rules in
     rw c.attribute_address-at.ensures at (sym c.is_terminator.ensures ∙ no) in
     let clean : is_dirty c.args.map.now (attribute_address c.args.r c.loop-n.n 0) ≡ false = sym (rw c.attribute_address-at.ensures at c.is_dirty.ensures) ∙ c.if-is_dirty.false in
     let adds : let a = c.args in let h = c.loop-n in rest_dirty a.r a.l a.vram.now a.map.now h.n h.drawn ≡ (c.sprite_dirty.result || rest_dirty a.r a.l a.vram.now a.map.now (h.n + 1) (h.drawn + 1)) = let a = c.args in
     let h = c.loop-n in
     let one = rw c.attribute_address-at.ensures at c.sprite_dirty.ensures in
-    drawn a.r a.l a.vram.now a.map.now h.n h.drawn c.loop-n-test.true (clean) (more) (does) c.if-drawn-eq4.false
+    drawn a.r a.l a.vram.now a.map.now h.n h.drawn c.loop-n-test.true (clean) (more) (does) (omega arith)
     ∙ ap (λ (b : Bool). b || rest_dirty a.r a.l a.vram.now a.map.now (h.n + 1) (h.drawn + 1)) (sym one) in
     let a = c.args in
     let h = c.loop-n in
@@ -66,15 +66,15 @@ loop-n-preserved c =
     let Y : ℕ = get_or c.args.vram.now (attribute_address c.args.r c.loop-n.n 0) 0 in
     let cov : c.covers-covering.result ≡ shape.covers c.args.r c.args.l (Y) = rw c.attribute_address-at.ensures at c.covers-covering.ensures in
     let does : shape.covers c.args.r c.args.l (Y) ≡ true = (sym (cov) ∙ c.if-not-covering.false) in
-    let more : eqb (Y) 208 ≡ false = let no : c.is_terminator.result ≡ false = c.if-is_terminator.false in
+    let more : eqb (Y) 208 ≡ false = let no : c.is_terminator.result ≡ false = search rules in
     rw c.attribute_address-at.ensures at (sym c.is_terminator.ensures ∙ no) in
     let clean : is_dirty c.args.map.now (attribute_address c.args.r c.loop-n.n 0) ≡ false = sym (rw c.attribute_address-at.ensures at c.is_dirty.ensures) ∙ c.if-is_dirty.false in
     let adds : let a = c.args in let h = c.loop-n in rest_dirty a.r a.l a.vram.now a.map.now h.n h.drawn ≡ (c.sprite_dirty.result || rest_dirty a.r a.l a.vram.now a.map.now (h.n + 1) (h.drawn + 1)) = let a = c.args in
     let h = c.loop-n in
     let one = rw c.attribute_address-at.ensures at c.sprite_dirty.ensures in
-    drawn a.r a.l a.vram.now a.map.now h.n h.drawn c.loop-n-test.true (clean) (more) (does) c.if-drawn-eq4.false
+    drawn a.r a.l a.vram.now a.map.now h.n h.drawn c.loop-n-test.true (clean) (more) (does) (omega arith)
     ∙ ap (λ (b : Bool). b || rest_dirty a.r a.l a.vram.now a.map.now (h.n + 1) (h.drawn + 1)) (sym one) in
-    let few : c.loop-n.drawn < 4 = let most = c.loop-n.invariant.1 in let not-four = c.if-drawn-eq4.false in omega arith in
+    let few : c.loop-n.drawn < 4 = let most = c.loop-n.invariant.1 in omega arith in
     let a = c.args in
     let h = c.loop-n in (
       omega (arith, c.loop-n-test.true),

@@ -1,5 +1,5 @@
 -- `scan_of` meets its contract.
-use Rattle.std.proofs.Common.{◌≡◌, ℕ, ◌<◌, true, false, eqb, get_or, sym, ◌∙◌, arith, lit<}
+use Rattle.std.proofs.Common.{◌≡◌, ℕ, ◌<◌, true, false, eqb, get_or, sym, ◌∙◌, arith, rules, lit<}
 use Rattle.sprites.specs.Scan.{attribute_address}
 use Rattle.sprites.specs.Shape as shape
 use Rattle.sprites.proofs.Laws.Bounds.{attribute-inside}
@@ -16,7 +16,7 @@ bounds-vram-attribute_address c =
 pub loop-n-preserved-then-not-covering : goal.loop-n-preserved-then-not-covering
 loop-n-preserved-then-not-covering c =
     let Y : ℕ = get_or c.args.vram.now (attribute_address c.args.r c.loop-n.n 0) 0 in
-    let more : eqb (Y) 208 ≡ false = let no : c.is_terminator.result ≡ false = c.if-is_terminator.false in
+    let more : eqb (Y) 208 ≡ false = let no : c.is_terminator.result ≡ false = search rules in
     rw c.attribute_address.ensures at (sym c.is_terminator.ensures ∙ no) in
     let cov : c.covers-covering.result ≡ shape.covers c.args.r c.args.l (Y) = rw c.attribute_address.ensures at c.covers-covering.ensures in
     let left : c.loop-n.n < 32 = let up = c.loop-n.invariant.up in let not-all = c.if-n-eq32.false in omega arith in
@@ -28,7 +28,7 @@ loop-n-preserved c =
     let cov : c.covers-covering.result ≡ shape.covers c.args.r c.args.l (Y) = rw c.attribute_address.ensures at c.covers-covering.ensures in
     let does : shape.covers c.args.r c.args.l (Y) ≡ true = (sym (cov) ∙ c.if-not-covering.false) in
     let few : c.loop-n.drawn < 4 = let most = c.loop-n.invariant.few in let not-four = c.if-drawn-eq4.false in omega arith in
-    let more : eqb (Y) 208 ≡ false = let no : c.is_terminator.result ≡ false = c.if-is_terminator.false in
+    let more : eqb (Y) 208 ≡ false = let no : c.is_terminator.result ≡ false = search rules in
     rw c.attribute_address.ensures at (sym c.is_terminator.ensures ∙ no) in
     let left : c.loop-n.n < 32 = let up = c.loop-n.invariant.up in let not-all = c.if-n-eq32.false in omega arith in
     let d = drawn c.args.r c.args.l c.args.vram.now c.loop-n.n c.loop-n.drawn (left) (more) (does) c.if-drawn-eq4.false in
@@ -51,7 +51,7 @@ returns-then-drawn-eq4 c =
     let Y : ℕ = get_or c.args.vram.now (attribute_address c.args.r c.loop-n.n 0) 0 in
     let cov : c.covers-covering.result ≡ shape.covers c.args.r c.args.l (Y) = rw c.attribute_address.ensures at c.covers-covering.ensures in
     let does : shape.covers c.args.r c.args.l (Y) ≡ true = (sym (cov) ∙ c.if-not-covering.false) in
-    let more : eqb (Y) 208 ≡ false = let no : c.is_terminator.result ≡ false = c.if-is_terminator.false in
+    let more : eqb (Y) 208 ≡ false = let no : c.is_terminator.result ≡ false = search rules in
     rw c.attribute_address.ensures at (sym c.is_terminator.ensures ∙ no) in
     let left : c.loop-n.n < 32 = let up = c.loop-n.invariant.up in let not-all = c.if-n-eq32.false in omega arith in
     going_end c.loop-n.invariant _ (at-fifth c.args.r c.args.l c.args.vram.now c.loop-n.n c.loop-n.drawn (left) (more) (does) c.if-drawn-eq4.true)
