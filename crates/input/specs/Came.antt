@@ -15,7 +15,7 @@ abbrev pub came_in : ℕ → List ℕ → List ℕ
 came_in count buffer = take count buffer
 
 -- What is known once a buffer of this size was read into. The count is not free: no more came than the buffer holds. The buffer's length stays.
--- All else is free, for no contract of the C library says which bytes a read brings: how many came up to that, and what
+-- All else is free, for no contract says which bytes a read of standard input brings: how many came up to that, and what
 -- each byte of the buffer is, behind the count too.
 pub record Came (size count : ℕ) (buffer : List ℕ) : Type 0 where
   pub within : count ≤ size
