@@ -7,13 +7,13 @@ use mathlib.Core.List.{List, [], ◌∷◌, ◌++◌}
 use lib.Dec.{eqb, leb}
 use lib.ListN.{length, get_or}
 use borrow.Author.Tests.{lt-leb, eq-eqb, ne_eqb}
+use Rattle.std.specs.Prelude.{Err}
 use Rattle.chip.specs.State.{vram_size, masked, well_formed}
 use Rattle.chip.specs.Map.{map_size}
 use Rattle.chip.specs.TwoBytes.{low_first_at}
 use Rattle.chip.specs.Layout.{waiting_valid, state_in, if_valid, decoded, block_size, chip_of}
-use Rattle.chip.specs.Refusals.{Test, vram_test, slice_test, state_test, number_of, refusal_of, if_accepted}
+use Rattle.chip.specs.Refusals.{Outcome, Test, vram_test, slice_test, state_test, number_of, refusal_of, if_accepted}
 use Rattle.chip.specs.declared.state.Chip.{Chip}
-use Rattle.chip.specs.declared.refusal.Refusal.{Refusal}
 use Rattle.chip.specs.declared.refusal.Refusal.TheVariants.{IllFormed}
 use Rattle.chip.proofs.Laws.Ranges.{and-false}
 use Rattle.chip.proofs.Laws.Refusals.{AllPass, passed}
@@ -79,14 +79,14 @@ refused = 3 * 256
 
 -- A call that tests the state, and whose other tests, ts, pass, refuses such a block.
 module _ (block : List ℕ) (unencoded : NoState block) where
-  ill-formed : (ts : List Test) → AllPass ts → refusal_of (ts ++ (state_test (chip_of block) ∷ [])) ≡ IllFormed
+  ill-formed : (ts : List Test) → AllPass ts → refusal_of (ts ++ (state_test (chip_of block) ∷ [])) ≡ Err IllFormed
   ill-formed [] p = rw (no-state block unencoded)
   ill-formed (t ∷ ts) p = passed t (ts ++ (state_test (chip_of block) ∷ [])) p.0 ∙ ill-formed ts p.1
 
   pub no-state-refused : (ts : List Test) → AllPass ts → (number : ℕ) → order.result_after (ts ++ (state_test (chip_of block) ∷ [])) number ≡ refused
   no-state-refused ts p number = by (ill-formed ts p)
     where
-      by : {r : Refusal} → r ≡ IllFormed → number_of r * 256 + if_accepted r number 0 ≡ refused
+      by : {r : Outcome} → r ≡ Err IllFormed → number_of r * 256 + if_accepted r number 0 ≡ refused
       by e = rw e
 
 -- So each of the fourteen calls from C that test the state refuses such a block, if every list that it is lent has its length.

@@ -1,11 +1,10 @@
 -- The calls from C: a direct call on the state that a lent 17-byte block holds, between decoding and encoding.
 use Rattle.std.specs.Prelude.{ℕ, ◌*◌, List, [], ◌∷◌}
-use Rattle.chip.specs.Refusals.{number_of, result_of, refusal_of, if_accepted, vram_test, slice_test}
+use Rattle.chip.specs.Refusals.{Outcome, number_of, result_of, refusal_of, if_accepted, vram_test, slice_test}
 use Rattle.chip.specs.Layout.{block_size, block_of, chip_of}
 use Rattle.chip.specs.Calls as direct
 use Rattle.chip.specs.declared.state.Chip.{Chip}
 use Rattle.chip.specs.declared.refusal.Answer.{Answer}
-use Rattle.chip.specs.declared.refusal.Refusal.{Refusal}
 
 -- What a call from C gives: one number, and the block at exit.
 pub record FromC : Type 0 where
@@ -15,26 +14,26 @@ pub record FromC : Type 0 where
 -- The tests at entry, past which the block can be decoded: VRAM's length, where VRAM is lent, and the block's. All others are
 -- the direct call's. This keeps the one order of tests: VRAM's length comes first in it, then the lengths with number 2, of
 -- which the block's is one, and everything else later (proofs/Order.antt).
-unfoldable pub block_entry : List ℕ → Refusal
+unfoldable pub block_entry : List ℕ → Outcome
 block_entry block = refusal_of (slice_test block_size block ∷ [])
 
-unfoldable pub vram_entry : List ℕ → List ℕ → Refusal
+unfoldable pub vram_entry : List ℕ → List ℕ → Outcome
 vram_entry block vram = refusal_of (vram_test vram ∷ slice_test block_size block ∷ [])
 
 -- The number that a call answers: 256 times the number of the refusal at entry, or the direct call's own.
-unfoldable pub result_through : Refusal → List ℕ → (Chip → Answer) → ℕ
+unfoldable pub result_through : Outcome → List ℕ → (Chip → Answer) → ℕ
 result_through entry block call = if_accepted entry (result_of (call (chip_of block))) (number_of entry * 256)
 
 -- The block at exit: the next state's where the call is accepted, and as lent where it is refused, at entry or by the direct call.
-unfoldable pub block_through : Refusal → List ℕ → (Chip → Answer) → List ℕ
+unfoldable pub block_through : Outcome → List ℕ → (Chip → Answer) → List ℕ
 block_through entry block call =
-    if_accepted entry (if_accepted (call (chip_of block)).refusal (block_of (call (chip_of block)).chip) block) block
+    if_accepted entry (if_accepted (call (chip_of block)).result (block_of (call (chip_of block)).chip) block) block
 
 -- Another lent list at exit: what the direct call leaves, and as lent where the call is refused at entry.
-unfoldable pub list_through : Refusal → List ℕ → (Chip → List ℕ) → List ℕ → List ℕ
+unfoldable pub list_through : Outcome → List ℕ → (Chip → List ℕ) → List ℕ → List ℕ
 list_through entry block leaves lent = if_accepted entry (leaves (chip_of block)) lent
 
-abbrev pub through : Refusal → List ℕ → (Chip → Answer) → FromC
+abbrev pub through : Outcome → List ℕ → (Chip → Answer) → FromC
 through entry block call = record { result = result_through entry block call; block = block_through entry block call }
 
 -- Power-up replaces the state, and so takes a block of any 17 bytes.

@@ -2,7 +2,7 @@
 ghost use Rattle.std.specs.Prelude.{◌≡◌};
 ghost use Rattle.birdcleft.specs.Frames as frames;
 
-use crate::{finish, vram_entry};
+use crate::{finish, result_of, vram_entry};
 
 pub fn vdp_full_draw(
     block: &mut [u8],
@@ -17,9 +17,8 @@ pub fn vdp_full_draw(
     ensures frame_after { frame.new ≡ frames.full_draw_frame block.old vram.now map.old frame.old notes.old }
     ensures notes_after { notes.new ≡ frames.full_draw_notes block.old vram.now map.old frame.old notes.old }
 {
-    let refused = vram_entry(block, vram);
-    if refused != 0 {
-        return refused;
+    if let Err(refusal) = vram_entry(block, vram) {
+        return result_of(refusal);
     }
     let answer = frame::full_draw(chip::load(block), vram, map, frame, notes);
     finish(answer, block)
@@ -38,9 +37,8 @@ pub fn vdp_refresh(
     ensures frame_after { frame.new ≡ frames.refresh_frame block.old vram.now map.old frame.old notes.old }
     ensures notes_after { notes.new ≡ frames.refresh_notes block.old vram.now map.old frame.old notes.old }
 {
-    let refused = vram_entry(block, vram);
-    if refused != 0 {
-        return refused;
+    if let Err(refusal) = vram_entry(block, vram) {
+        return result_of(refusal);
     }
     let answer = frame::refresh(chip::load(block), vram, map, frame, notes);
     finish(answer, block)

@@ -2,10 +2,12 @@
 // block's, without which the block cannot be decoded; then it loads the state and makes the direct call. A call that is lent the
 // block to write stores the next state if the call was accepted; the four that are lent it to read (`vdp_interrupt_line`,
 // `vdp_point`, `vdp_origin`, `vdp_write_snapshot`) store nothing there.
-#![tactic(auto)]
+// Each makes these steps itself: a closure for the direct call would hold the lent slices, and where it is not run, nothing is
+// known of what they hold after (tried, not proved).
+#![tactic(auto, unfolding(crate::specs::Calls::block_entry, crate::specs::Calls::vram_entry, crate::specs::Calls::result_through, crate::specs::Calls::block_through, crate::specs::Calls::list_through, crate::specs::Logs::run_entry))]
 
 ghost use Rattle.std.specs.Prelude.{◌≡◌, ◌*◌, length};
-ghost use Rattle.chip.specs.Refusals.{number_of, result_of, if_accepted};
+ghost use Rattle.chip.specs.Refusals.{refusal_number, result_of, if_accepted};
 ghost use Rattle.chip.specs.Layout.{block_of};
 ghost use Rattle.birdcleft.specs.Calls as calls;
 
@@ -25,26 +27,26 @@ pub use snapshots::{vdp_read_snapshot, vdp_write_snapshot};
 
 // 256 times a refusal's number.
 fn result_of(refusal: Refusal) -> u32
-    ensures { result ≡ number_of refusal * 256 }
+    ensures { result ≡ refusal_number refusal * 256 }
 {
-    refusal.number() * 256
+    u32::from(u8::from(refusal)) * 256
 }
 
-// The same for the tests at entry: 0 where they pass.
-fn block_entry(block: &[u8]) -> u32
-    ensures { result ≡ number_of (calls.block_entry block.now) * 256 }
+// The tests at entry.
+fn block_entry(block: &[u8]) -> Result<(), Refusal>
+    ensures { result ≡ calls.block_entry block.now }
 {
     if block.len() != 17 {
-        return result_of(Refusal::SliceLength);
+        return Err(Refusal::SliceLength);
     }
-    result_of(Refusal::Accepted)
+    Ok(())
 }
 
-fn vram_entry(block: &[u8], vram: &[u8]) -> u32
-    ensures { result ≡ number_of (calls.vram_entry block.now vram.now) * 256 }
+fn vram_entry(block: &[u8], vram: &[u8]) -> Result<(), Refusal>
+    ensures { result ≡ calls.vram_entry block.now vram.now }
 {
     if vram.len() != 16384 {
-        return result_of(Refusal::VramLength);
+        return Err(Refusal::VramLength);
     }
     block_entry(block)
 }
@@ -53,14 +55,11 @@ fn vram_entry(block: &[u8], vram: &[u8]) -> u32
 fn finish(answer: Answer, block: &mut [u8]) -> u32
     requires { length block.old ≡ 17 }
     ensures value { result ≡ result_of answer }
-    ensures block_after { block.new ≡ if_accepted answer.refusal (block_of answer.chip) block.old }
+    ensures block_after { block.new ≡ if_accepted answer.result (block_of answer.chip) block.old }
 {
-    let refusal = answer.refusal;
-    if refusal.number() != 0 {
-        return answer.number();
+    if answer.result.is_ok() {
+        answer.chip.store(block);
     }
-    let next = answer.chip;
-    next.store(block);
     answer.number()
 }
 
@@ -69,24 +68,20 @@ pub fn vdp_power_up(block: &mut [u8], vram: &mut [u8]) -> u32
     ensures block_after { block.new ≡ (calls.power_up block.old vram.old).block }
     ensures vram_after { vram.new ≡ calls.power_up_vram block.old vram.old }
 {
-    let refused = vram_entry(block, vram);
-    if refused != 0 {
-        return refused;
+    if let Err(refusal) = vram_entry(block, vram) {
+        return result_of(refusal);
     }
-    let answer = chip::load(block).power_up(vram);
-    finish(answer, block)
+    finish(chip::load(block).power_up(vram), block)
 }
 
 pub fn vdp_control_write(block: &mut [u8], vram: &[u8], byte: u8) -> u32
     ensures value { result ≡ (calls.control_write block.old vram.now byte).result }
     ensures block_after { block.new ≡ (calls.control_write block.old vram.now byte).block }
 {
-    let refused = vram_entry(block, vram);
-    if refused != 0 {
-        return refused;
+    if let Err(refusal) = vram_entry(block, vram) {
+        return result_of(refusal);
     }
-    let answer = chip::load(block).control_write(vram, byte);
-    finish(answer, block)
+    finish(chip::load(block).control_write(vram, byte), block)
 }
 
 pub fn vdp_data_write(block: &mut [u8], vram: &mut [u8], map: &mut [u8], byte: u8) -> u32
@@ -95,56 +90,47 @@ pub fn vdp_data_write(block: &mut [u8], vram: &mut [u8], map: &mut [u8], byte: u
     ensures vram_after { vram.new ≡ calls.data_write_vram block.old vram.old map.old byte }
     ensures map_after { map.new ≡ calls.data_write_map block.old vram.old map.old }
 {
-    let refused = vram_entry(block, vram);
-    if refused != 0 {
-        return refused;
+    if let Err(refusal) = vram_entry(block, vram) {
+        return result_of(refusal);
     }
-    let answer = chip::load(block).data_write(vram, map, byte);
-    finish(answer, block)
+    finish(chip::load(block).data_write(vram, map, byte), block)
 }
 
 pub fn vdp_data_read(block: &mut [u8], vram: &[u8]) -> u32
     ensures value { result ≡ (calls.data_read block.old vram.now).result }
     ensures block_after { block.new ≡ (calls.data_read block.old vram.now).block }
 {
-    let refused = vram_entry(block, vram);
-    if refused != 0 {
-        return refused;
+    if let Err(refusal) = vram_entry(block, vram) {
+        return result_of(refusal);
     }
-    let answer = chip::load(block).data_read(vram);
-    finish(answer, block)
+    finish(chip::load(block).data_read(vram), block)
 }
 
 pub fn vdp_status_read(block: &mut [u8]) -> u32
     ensures value { result ≡ (calls.status_read block.old).result }
     ensures block_after { block.new ≡ (calls.status_read block.old).block }
 {
-    let refused = block_entry(block);
-    if refused != 0 {
-        return refused;
+    if let Err(refusal) = block_entry(block) {
+        return result_of(refusal);
     }
-    let answer = chip::load(block).status_read();
-    finish(answer, block)
+    finish(chip::load(block).status_read(), block)
 }
 
 pub fn vdp_end_of_display(block: &mut [u8]) -> u32
     ensures value { result ≡ (calls.end_of_display block.old).result }
     ensures block_after { block.new ≡ (calls.end_of_display block.old).block }
 {
-    let refused = block_entry(block);
-    if refused != 0 {
-        return refused;
+    if let Err(refusal) = block_entry(block) {
+        return result_of(refusal);
     }
-    let answer = chip::load(block).end_of_display();
-    finish(answer, block)
+    finish(chip::load(block).end_of_display(), block)
 }
 
 pub fn vdp_interrupt_line(block: &[u8]) -> u32
     ensures { result ≡ calls.interrupt_line block.now }
 {
-    let refused = block_entry(block);
-    if refused != 0 {
-        return refused;
+    if let Err(refusal) = block_entry(block) {
+        return result_of(refusal);
     }
     chip::load(block).interrupt_line().number()
 }
@@ -153,10 +139,8 @@ pub fn vdp_reset(block: &mut [u8]) -> u32
     ensures value { result ≡ (calls.reset block.old).result }
     ensures block_after { block.new ≡ (calls.reset block.old).block }
 {
-    let refused = block_entry(block);
-    if refused != 0 {
-        return refused;
+    if let Err(refusal) = block_entry(block) {
+        return result_of(refusal);
     }
-    let answer = chip::load(block).reset();
-    finish(answer, block)
+    finish(chip::load(block).reset(), block)
 }

@@ -2,7 +2,7 @@
 ghost use Rattle.std.specs.Prelude.{◌≡◌};
 ghost use Rattle.birdcleft.specs.Lines as lines;
 
-use crate::{finish, vram_entry};
+use crate::{finish, result_of, vram_entry};
 
 pub fn vdp_draw_line(
     block: &mut [u8],
@@ -16,9 +16,8 @@ pub fn vdp_draw_line(
     ensures line_after { line.new ≡ lines.draw_line_line block.old vram.now line.old origins.old number }
     ensures origins_after { origins.new ≡ lines.draw_line_origins block.old vram.now line.old origins.old number }
 {
-    let refused = vram_entry(block, vram);
-    if refused != 0 {
-        return refused;
+    if let Err(refusal) = vram_entry(block, vram) {
+        return result_of(refusal);
     }
     let answer = scanline::draw_line(chip::load(block), vram, line, origins, number);
     finish(answer, block)

@@ -2,46 +2,33 @@
 ghost use Rattle.std.specs.Prelude.{◌≡◌};
 ghost use Rattle.birdcleft.specs.Points as points;
 
-use crate::vram_entry;
+use crate::{result_of, vram_entry};
 
-// What each of the two calls answers.
-#[derive(Clone, Copy)]
-struct PointResults {
-    colour: u32,
-    origin: u32,
-}
-
-// Both at once: with one caller the direct call is put in here by the compiler, and the state need not go through memory.
-fn point_results(block: &[u8], vram: &[u8], line: u32, column: u32) -> PointResults
-    ensures colour_value { result.colour ≡ points.point block.now vram.now line column }
-    ensures origin_value { result.origin ≡ points.origin block.now vram.now line column }
+// The numbers of both calls at once: with one caller the direct call is put in here by the compiler, and the state need not go
+// through memory. A pair of numbers comes back in a register, and a `Result` would not (1 ns of 17).
+fn point_numbers(block: &[u8], vram: &[u8], line: u32, column: u32) -> (u32, u32)
+    ensures colour_value { result.0 ≡ points.point block.now vram.now line column }
+    ensures origin_value { result.1 ≡ points.origin block.now vram.now line column }
 {
-    let refused = vram_entry(block, vram);
-    if refused != 0 {
-        return PointResults {
-            colour: refused,
-            origin: refused,
-        };
+    if let Err(refusal) = vram_entry(block, vram) {
+        let number = result_of(refusal);
+        return (number, number);
     }
     let answer = point::point(chip::load(block), vram, line, column);
-    let colour = answer.colour_answer().number();
-    let origin = answer.origin_answer().number();
-    PointResults {
-        colour: colour,
-        origin: origin,
-    }
+    (
+        answer.colour_answer().number(),
+        answer.origin_answer().number(),
+    )
 }
 
 pub fn vdp_point(block: &[u8], vram: &[u8], line: u32, column: u32) -> u32
     ensures { result ≡ points.point block.now vram.now line column }
 {
-    let results = point_results(block, vram, line, column);
-    results.colour
+    point_numbers(block, vram, line, column).0
 }
 
 pub fn vdp_origin(block: &[u8], vram: &[u8], line: u32, column: u32) -> u32
     ensures { result ≡ points.origin block.now vram.now line column }
 {
-    let results = point_results(block, vram, line, column);
-    results.origin
+    point_numbers(block, vram, line, column).1
 }

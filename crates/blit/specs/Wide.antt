@@ -1,19 +1,26 @@
 -- A sprite's row of bits as wide as it is shown: a number of 32 bits, a bit for every column, the highest for the sprite's first.
-use Rattle.std.specs.Prelude.{ℕ, ◌+◌, ◌-◌, ◌≤◌, ◌<◌, ◌≡◌, Bool, ◌&&◌, List, leb, ltb, length, get_or}
+use lib.Dec.{lit≤}
+use Rattle.std.specs.Prelude.{ℕ, ◌+◌, ◌-◌, ◌<◌, ◌≡◌, Bool, ◌&&◌, List, leb, ltb, length, get_or}
 use Rattle.chip.specs.Bits.{bit}
 use Rattle.chip.specs.Ranges.{any_below}
-use Rattle.sprites.specs.Pixels.{visible, hits, reach}
+use Rattle.sprites.specs.Pixels.{hits, reach}
 use Rattle.sprites.specs.Scanned.{no_sprite}
 use Rattle.sprites.specs.declared.scan.Scan.{Scan}
 use Rattle.sprites.specs.declared.sprite.Sprite.{Sprite}
+use Rattle.blit.specs.declared.wide_sprite.WideSprite.{WideSprite}
+
+-- What stands where there is none.
+abbrev pub no_wide : WideSprite
+no_wide = record { sprite = no_sprite; row = 0; near = lit≤ tt }
 
 abbrev pub WideRow : List ℕ → Sprite → ℕ → Type 0
 WideRow r s row = (k : ℕ) → k < 32 → bit (31 - k) row ≡ hits r s (s.first + k)
 
--- The wide rows of a scan's sprites.
-pub record WideRows (r : List ℕ) (scan : Scan) (rows : List ℕ) : Type 0 where
-  pub long : length rows ≡ 4
-  pub each : (k : ℕ) → k < 4 → WideRow r (get_or scan.sprites k no_sprite) (get_or rows k 0)
+-- A scan's sprites, each with its wide row.
+pub record WideRows (r : List ℕ) (scan : Scan) (wides : List WideSprite) : Type 0 where
+  pub long : length wides ≡ 4
+  pub own : (k : ℕ) → k < 4 → (get_or wides k no_wide).sprite ≡ get_or scan.sprites k no_sprite
+  pub each : (k : ℕ) → k < 4 → WideRow r (get_or scan.sprites k no_sprite) (get_or wides k no_wide).row
 
 -- Whether a wide row has a set bit at column c, by the row's first column.
 unfoldable pub shown_at : ℕ → ℕ → ℕ → Bool
@@ -27,12 +34,9 @@ columns_overlap f g = ltb f (g + 32) && ltb g (f + 32)
 unfoldable pub rows_meet : ℕ → ℕ → ℕ → ℕ → Bool
 rows_meet f v g w = any_below reach (λ c. shown_at f v c && shown_at g w c)
 
--- The same of the rows at two places.
-abbrev pub places_meet : List ℕ → List ℕ → ℕ → ℕ → Bool
-places_meet firsts rows i k = rows_meet (get_or firsts i 0) (get_or rows i 0) (get_or firsts k 0) (get_or rows k 0)
+abbrev pub wides_meet : WideSprite → WideSprite → Bool
+wides_meet v w = rows_meet v.sprite.first v.row w.sprite.first w.row
 
--- Four first columns, each at most the screen's column 255, and four rows.
-pub record Near (firsts rows : List ℕ) : Type 0 where
-  pub firsts_long : length firsts ≡ 4
-  pub rows_long : length rows ≡ 4
-  pub near : (k : ℕ) → k < 4 → get_or firsts k 0 ≤ visible 255
+-- Whether one of them meets one of those before it.
+abbrev pub any_meet : List WideSprite → Bool
+any_meet l = any_below (length l) (λ k. any_below k (λ i. wides_meet (get_or l i no_wide) (get_or l k no_wide)))

@@ -5,5 +5,6 @@ mod draw;
 mod meet;
 mod paint;
 mod wide;
+mod wide_sprite;
 
 pub use draw::draw_found;

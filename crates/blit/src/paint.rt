@@ -28,13 +28,9 @@ fn paint_words(line: &mut [u8], masks: &[u64], r: [u8; 8], s: Sprite, row: u32)
 {
     let colour = repeated(s.colour);
     let first = s.first as usize - 32;
-    let width = side(r);
-    let mut left = row;
-    let mut j = 0;
-    while j < width {
-        paint_eight(line, masks, first + j, (left / 0x1000000) as u8, colour);
-        left = left % 0x1000000 * 256;
-        j += 8;
+    let patterns = row.to_be_bytes();
+    for (j, pattern) in patterns[..side(r) / 8].iter().enumerate() {
+        paint_eight(line, masks, first + 8 * j, *pattern, colour);
     }
 }
 
@@ -44,9 +40,8 @@ pub fn paint_found(line: &mut [u8], masks: &[u64], r: [u8; 8], s: Sprite, row: u
     ensures { line.new ≡ tabulate 256 (λ x. cond (eqb (cond (hits r s (visible x)) s.colour 0) 0) (get_or line.old x 0) s.colour) }
 {
     let first = s.first as usize;
-    if (s.colour == 0) | (first < 32) | (288 < first + side(r)) {
-        let colour = s.colour;
-        paint_sprite(line, r, s, colour);
+    if s.colour == 0 || first < 32 || 288 < first + side(r) {
+        paint_sprite(line, r, s, s.colour);
     } else {
         paint_words(line, masks, r, s, row);
     }

@@ -4,6 +4,7 @@ ghost use Rattle.chip.specs.Bits as bits;
 ghost use Rattle.sprites.specs.Scanned.{AsRead};
 ghost use Rattle.blit.specs.Wide.{WideRow};
 
+use crate::wide_sprite::WideSprite;
 use sprites::{Sprite, is_magnified};
 
 // Each bit of a byte twice: the bits are drawn apart by halves, and each is then put beside itself.
@@ -18,15 +19,24 @@ fn doubled(byte: u8) -> u32
     ones * 3
 }
 
-pub fn wide_row(r: [u8; 8], s: Sprite) -> u32
+fn wide_row(r: [u8; 8], s: Sprite) -> u32
     requires { AsRead r s }
     ensures { WideRow r s result }
 {
-    let left = (s.bits / 256) as u8;
-    let right = (s.bits % 256) as u8;
+    let [left, right] = s.bits.to_be_bytes();
     if is_magnified(r) {
         doubled(left) * 65536 + doubled(right)
     } else {
         s.bits as u32 * 65536
+    }
+}
+
+pub fn wide_of(r: [u8; 8], s: Sprite) -> WideSprite
+    requires { AsRead r s }
+    ensures { (result.sprite ≡ s) × WideRow r s result.row }
+{
+    WideSprite {
+        sprite: s,
+        row: wide_row(r, s),
     }
 }

@@ -4,16 +4,15 @@ use mir.Val.{bool_byte}
 use Rattle.chip.specs.State.{power_up_state}
 use Rattle.chip.specs.Map.{map_size, set_dirty}
 use Rattle.chip.specs.Ports.{control, data_written, stored, after_data_read, after_status_read, display_ended, interrupt_on, was_reset, cleared_vram}
-use Rattle.chip.specs.Refusals.{Test, vram_test, slice_test, state_test, refusal_of, if_accepted, answered}
+use Rattle.chip.specs.Refusals.{Outcome, Test, vram_test, slice_test, state_test, refusal_of, if_accepted, answered}
 use Rattle.chip.specs.declared.state.Chip.{Chip}
 use Rattle.chip.specs.declared.refusal.Answer.{Answer}
-use Rattle.chip.specs.declared.refusal.Refusal.{Refusal}
 
 -- Power-up does not test the state, which it replaces.
 abbrev pub power_up_tests : List ℕ → List Test
 power_up_tests vram = vram_test vram ∷ []
 
-abbrev pub power_up_refusal : List ℕ → Refusal
+abbrev pub power_up_refusal : List ℕ → Outcome
 power_up_refusal vram = refusal_of (power_up_tests vram)
 
 abbrev pub power_up : Chip → List ℕ → Answer
@@ -31,7 +30,7 @@ control_write c vram b = answered (refusal_of (control_write_tests c vram)) c (c
 abbrev pub data_write_tests : Chip → List ℕ → List ℕ → List Test
 data_write_tests c vram map = vram_test vram ∷ slice_test map_size map ∷ state_test c ∷ []
 
-abbrev pub data_write_refusal : Chip → List ℕ → List ℕ → Refusal
+abbrev pub data_write_refusal : Chip → List ℕ → List ℕ → Outcome
 data_write_refusal c vram map = refusal_of (data_write_tests c vram map)
 
 abbrev pub data_write : Chip → List ℕ → List ℕ → ℕ → Answer

@@ -1,10 +1,8 @@
 -- The port operations on a well-formed state and VRAM of its full size. Each hands the next state back.
-use Rattle.std.specs.Prelude.{ℕ, ◌+◌, ◌*◌, ◌%◌, Bool, true, cond, not, ◌&&◌, ◌||◌, List, eqb, leb, ltb, get_or, set, replicate}
+use Rattle.std.specs.Prelude.{ℕ, ◌+◌, ◌*◌, ◌%◌, Bool, true, cond, not, ◌&&◌, ◌||◌, List, eqb, leb, ltb, get_or, set, replicate, Option, None, Some}
 use Rattle.chip.specs.Bits.{bit, set_bit}
 use Rattle.chip.specs.State.{vram_size, kept, register, with_registers, with_address, with_buffer, with_waiting, with_status, with_redraw, with_lost}
 use Rattle.chip.specs.declared.state.Chip.{Chip}
-use Rattle.chip.specs.declared.state.Waiting.{Waiting}
-use Rattle.chip.specs.declared.state.Waiting.TheVariants.{Nothing, First}
 
 -- The address one step on: from 16,383 it goes to 0.
 abbrev pub next_address : ℕ → ℕ
@@ -26,9 +24,9 @@ abbrev pub pair_done : ℕ → ℕ → List ℕ → Chip → Chip
 pair_done a b vram c = cond (leb 128 b) (register_written (b % 8) a c) (cond (ltb b 64) (prefetched vram c) c)
 
 -- Control write. With none waiting, byte b waits. With byte a waiting, b completes the pair.
-abbrev pub control_by : Waiting → ℕ → List ℕ → Chip → Chip
-control_by Nothing b vram c = with_waiting (First b) c
-control_by (First a) b vram c = pair_done a b vram (with_address (b % 64 * 256 + a) (with_waiting Nothing c))
+abbrev pub control_by : Option ℕ → ℕ → List ℕ → Chip → Chip
+control_by None b vram c = with_waiting (Some b) c
+control_by (Some a) b vram c = pair_done a b vram (with_address (b % 64 * 256 + a) (with_waiting None c))
 
 abbrev pub control : ℕ → List ℕ → Chip → Chip
 control b vram c = control_by c.waiting b vram c
@@ -38,13 +36,13 @@ abbrev pub most_lost : ℕ
 most_lost = 65535
 
 -- The count n once what waits has been dropped: one more if a byte waited.
-abbrev pub lost_by : Waiting → ℕ → ℕ
-lost_by Nothing n = n
-lost_by (First a) n = cond (ltb n most_lost) (n + 1) most_lost
+abbrev pub lost_by : Option ℕ → ℕ → ℕ
+lost_by None n = n
+lost_by (Some a) n = cond (ltb n most_lost) (n + 1) most_lost
 
 -- A first byte that waits is dropped and counted, so that nothing waits: part of a data write, a data read and a status read.
 abbrev pub first_dropped : Chip → Chip
-first_dropped c = with_lost (lost_by c.waiting c.lost) (with_waiting Nothing c)
+first_dropped c = with_lost (lost_by c.waiting c.lost) (with_waiting None c)
 
 -- Data write: VRAM at the address and the buffer take the byte, the address steps. (Its map bit: see Map.)
 abbrev pub data_written : ℕ → Chip → Chip
@@ -72,7 +70,7 @@ interrupt_on c = bit 7 c.status && bit 5 (register 1 c.registers)
 -- After reset registers 0 and 1, status and the count of lost first bytes are zero, nothing waits and the redraw mark is set. A
 -- byte that waited is not counted. VRAM, map and the rest stay.
 abbrev pub was_reset : Chip → Chip
-was_reset c = with_lost 0 (with_redraw true (with_waiting Nothing (with_status 0 (with_registers (set (set c.registers 0 0) 1 0) c))))
+was_reset c = with_lost 0 (with_redraw true (with_waiting None (with_status 0 (with_registers (set (set c.registers 0 0) 1 0) c))))
 
 -- Power-up fills VRAM with zeros.
 abbrev pub cleared_vram : List ℕ

@@ -1,31 +1,29 @@
 -- The chip's state: eight registers, a 14-bit address, the read buffer, the waiting first byte, status, the redraw mark and the
 -- count of lost first bytes.
-use Rattle.std.specs.Prelude.{ℕ, ◌<◌, ◌≡◌, Bool, true, cond, ◌&&◌, List, [], ◌∷◌, eqb, leb, length, get_or, replicate}
+use Rattle.std.specs.Prelude.{ℕ, ◌<◌, ◌≡◌, Bool, true, cond, ◌&&◌, List, [], ◌∷◌, eqb, leb, length, get_or, replicate, Option, None, Some}
 use Rattle.std.specs.Int.Bits.{bit_and}
 use Rattle.chip.specs.Ranges.{all_below}
 use Rattle.chip.specs.declared.state.Chip.{Chip}
-use Rattle.chip.specs.declared.state.Waiting.{Waiting}
-use Rattle.chip.specs.declared.state.Waiting.TheVariants.{Nothing, First}
 
 -- How many bytes of VRAM there are.
 abbrev pub vram_size : ℕ
 vram_size = 16384
 
 -- The waiting first byte as the state block's two bytes: none is 0 and 0, the byte a is 1 and a.
-abbrev pub flag_of : Waiting → ℕ
-flag_of Nothing = 0
-flag_of (First a) = 1
+abbrev pub flag_of : Option ℕ → ℕ
+flag_of None = 0
+flag_of (Some a) = 1
 
-abbrev pub byte_of : Waiting → ℕ
-byte_of Nothing = 0
-byte_of (First a) = a
+abbrev pub byte_of : Option ℕ → ℕ
+byte_of None = 0
+byte_of (Some a) = a
 
-abbrev pub waiting_of : ℕ → ℕ → Waiting
-waiting_of flag a = cond (eqb flag 1) (First a) Nothing
+abbrev pub waiting_of : ℕ → ℕ → Option ℕ
+waiting_of flag a = cond (eqb flag 1) (Some a) None
 
 -- At power-up all is zero, the count of lost first bytes too; nothing waits, and the redraw mark is set.
 abbrev pub power_up_state : Chip
-power_up_state = record { registers = replicate 8 0; address = 0; buffer = 0; waiting = Nothing; status = 0; redraw = true; lost = 0 }
+power_up_state = record { registers = replicate 8 0; address = 0; buffer = 0; waiting = None; status = 0; redraw = true; lost = 0 }
 
 -- The bits that registers 0 to 7 keep.
 abbrev pub masks : List ℕ
@@ -53,7 +51,7 @@ well_formed c = masked c.registers && leb c.address 16383
 
 -- The state's fields as a chain of pairs, so that one of them can be changed and the rest passed on.
 abbrev pub Fields : Type 0
-Fields = List ℕ × (ℕ × (ℕ × (Waiting × (ℕ × (Bool × (ℕ × Unit {0}))))))
+Fields = List ℕ × (ℕ × (ℕ × (Option ℕ × (ℕ × (Bool × (ℕ × Unit {0}))))))
 
 -- The state built again from its fields after a change to their chain.
 abbrev pub rebuilt : (Fields → Fields) → Chip → Chip
@@ -82,7 +80,7 @@ pub data Change : Type 0 where
   registers_to : List ℕ → Change
   address_to : ℕ → Change
   buffer_to : ℕ → Change
-  waiting_to : Waiting → Change
+  waiting_to : Option ℕ → Change
   status_to : ℕ → Change
   redraw_to : Bool → Change
   lost_to : ℕ → Change
@@ -105,7 +103,7 @@ with_address a c = changed (address_to a) c
 abbrev pub with_buffer : ℕ → Chip → Chip
 with_buffer b c = changed (buffer_to b) c
 
-abbrev pub with_waiting : Waiting → Chip → Chip
+abbrev pub with_waiting : Option ℕ → Chip → Chip
 with_waiting w c = changed (waiting_to w) c
 
 abbrev pub with_status : ℕ → Chip → Chip

@@ -4,7 +4,7 @@ ghost use Rattle.chip.specs.Ports.{register_written, pair_done, control};
 ghost use Rattle.chip.specs.Calls as calls;
 
 use crate::refusal::{Answer, Refusal};
-use crate::state::{Chip, Waiting, keep};
+use crate::state::{Chip, keep};
 
 impl Chip {
     // Register n takes a, and the redraw mark is set if that alters it.
@@ -37,11 +37,10 @@ impl Chip {
         requires { (self.address ≤ 16383) × (length vram.now ≡ 16384) }
         ensures { result ≡ control b vram.now self }
     {
-        let waiting = self.waiting;
-        let Waiting::First(a) = waiting else {
-            return self.with_waiting(Waiting::First(b));
+        let Some(a) = self.waiting else {
+            return self.with_waiting(Some(b));
         };
-        let mut next = self.with_waiting(Waiting::Nothing);
+        let mut next = self.with_waiting(None);
         next.address = (b % 64) as u16 * 256 + a as u16;
         next.complete(vram, a, b)
     }

@@ -3,25 +3,20 @@ ghost use Rattle.std.specs.Prelude.{◌≡◌, ◌≤◌, length, take};
 ghost use Rattle.chip.specs.State.{waiting_of};
 ghost use Rattle.chip.specs.Layout as layout;
 
-use crate::lists::copy;
-use crate::state::{Chip, Waiting};
-use crate::two_bytes::{low_first, low_first_at};
+use crate::state::Chip;
+use crate::two_bytes::low_first_at;
 
 fn registers_of(b: &[u8]) -> [u8; 8]
     requires { 14 ≤ length b.now }
     ensures { result ≡ take 8 b.now }
 {
-    [b[0], b[1], b[2], b[3], b[4], b[5], b[6], b[7]]
+    *b.first_chunk().unwrap()
 }
 
-fn waiting_of(flag: u8, first: u8) -> Waiting
+fn waiting_of(flag: u8, first: u8) -> Option<u8>
     ensures { result ≡ waiting_of flag first }
 {
-    if flag == 1 {
-        Waiting::First(first)
-    } else {
-        Waiting::Nothing
-    }
+    if flag == 1 { Some(first) } else { None }
 }
 
 // Whether the waiting flag and the first byte are those of a state.
@@ -36,16 +31,14 @@ fn state_in(b: &[u8], redraw: bool, lost: u16) -> Chip
     requires { 14 ≤ length b.now }
     ensures { result ≡ layout.state_in b.now redraw lost }
 {
-    let registers = registers_of(b);
-    let waiting = waiting_of(b[11], b[12]);
     Chip {
-        registers: registers,
+        registers: registers_of(b),
         address: low_first_at(b, 8),
         buffer: b[10],
-        waiting: waiting,
+        waiting: waiting_of(b[11], b[12]),
         status: b[13],
-        redraw: redraw,
-        lost: lost,
+        redraw,
+        lost,
     }
 }
 
@@ -58,6 +51,7 @@ fn address_if(valid: bool, address: u16) -> u16
 
 // The state that the first 14 bytes hold. Only the address turns on whether they are a state's: a choice between two whole
 // states would go through memory.
+#[tactic(auto, unfolding(crate::specs::Layout::decoded))]
 pub fn decode(b: &[u8], redraw: bool, lost: u16) -> Chip
     requires { 14 ≤ length b.now }
     ensures { result ≡ layout.decoded b.now redraw lost }
@@ -68,6 +62,7 @@ pub fn decode(b: &[u8], redraw: bool, lost: u16) -> Chip
 }
 
 // The state that a block holds.
+#[tactic(auto, unfolding(crate::specs::Layout::chip_of))]
 pub fn load(b: &[u8]) -> Chip
     requires { length b.now ≡ 17 }
     ensures { result ≡ layout.chip_of b.now }
@@ -84,23 +79,24 @@ impl Chip {
     pub fn encode(self) -> Layout
         ensures { result ≡ layout.encoded self }
     {
-        let r = self.registers;
-        let waiting = self.waiting;
-        let address = low_first(self.address);
+        let [r0, r1, r2, r3, r4, r5, r6, r7] = self.registers;
+        let [low, high] = self.address.to_le_bytes();
+        let flag = self.waiting.is_some() as u8;
+        let first = self.waiting.unwrap_or(0);
         [
-            r[0],
-            r[1],
-            r[2],
-            r[3],
-            r[4],
-            r[5],
-            r[6],
-            r[7],
-            address[0],
-            address[1],
+            r0,
+            r1,
+            r2,
+            r3,
+            r4,
+            r5,
+            r6,
+            r7,
+            low,
+            high,
             self.buffer,
-            waiting.flag(),
-            waiting.byte(),
+            flag,
+            first,
             self.status,
         ]
     }
@@ -110,11 +106,10 @@ impl Chip {
         requires { length b.old ≡ 17 }
         ensures { b.new ≡ layout.block_of self }
     {
-        let bytes = self.encode();
-        let lost = low_first(self.lost);
-        copy(&mut b[0..14], &bytes);
+        let [low, high] = self.lost.to_le_bytes();
+        b[..14].copy_from_slice(&self.encode());
         b[14] = self.redraw as u8;
-        b[15] = lost[0];
-        b[16] = lost[1];
+        b[15] = low;
+        b[16] = high;
     }
 }

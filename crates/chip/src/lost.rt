@@ -2,19 +2,16 @@
 ghost use Rattle.std.specs.Prelude.{◌≡◌};
 ghost use Rattle.chip.specs.Ports.{lost_by, first_dropped};
 
-use crate::state::{Chip, Waiting};
+use crate::state::Chip;
 
 // The count once what waits has been dropped. It stops at 65,535.
-fn lost_by(waiting: Waiting, lost: u16) -> u16
+fn lost_by(waiting: Option<u8>, lost: u16) -> u16
     ensures { result ≡ lost_by waiting lost }
 {
-    let Waiting::First(_) = waiting else {
-        return lost;
-    };
-    if lost < 65535 {
-        return lost + 1;
+    match waiting {
+        None => lost,
+        Some(_) => lost.saturating_add(1),
     }
-    65535
 }
 
 impl Chip {
@@ -22,9 +19,8 @@ impl Chip {
     pub fn drop_first(self) -> Chip
         ensures { result ≡ first_dropped self }
     {
-        let waiting = self.waiting;
-        let mut next = self.with_waiting(Waiting::Nothing);
-        next.lost = lost_by(waiting, self.lost);
+        let mut next = self.with_waiting(None);
+        next.lost = lost_by(self.waiting, self.lost);
         next
     }
 }

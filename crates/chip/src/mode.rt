@@ -4,7 +4,7 @@ ghost use Rattle.chip.specs.Modes.{mode_by, mode_of};
 
 use crate::bits::bit;
 
-#[derive(Clone, Copy)]
+#[derive(Clone, Copy, PartialEq, Eq, Debug)]
 pub enum Mode {
     // Display off, or two or more mode bits: neither pattern nor sprites.
     Blank,
@@ -18,22 +18,16 @@ pub enum Mode {
 fn mode_by(m1: bool, m2: bool, m3: bool) -> Mode
     ensures { result ≡ mode_by m1 m2 m3 }
 {
-    if m1 {
-        if m2 {
-            return Mode::Blank;
-        }
-        return if m3 { Mode::Blank } else { Mode::Text };
-    }
-    if m2 {
-        return if m3 { Mode::Blank } else { Mode::Multicolor };
-    }
-    if m3 {
-        Mode::GraphicsII
-    } else {
-        Mode::GraphicsI
+    match (m1, m2, m3) {
+        (false, false, false) => Mode::GraphicsI,
+        (false, false, true) => Mode::GraphicsII,
+        (false, true, false) => Mode::Multicolor,
+        (true, false, false) => Mode::Text,
+        _ => Mode::Blank,
     }
 }
 
+#[tactic(auto, unfolding(crate::specs::Modes::mode_of))]
 pub fn mode_of(registers: [u8; 8]) -> Mode
     ensures { result ≡ mode_of registers }
 {

@@ -2,9 +2,8 @@
 ghost use Rattle.std.specs.Prelude.{◌≡◌};
 ghost use Rattle.chip.specs.Calls as calls;
 
-use crate::lists::fill;
 use crate::refusal::{Answer, Refusal};
-use crate::state::{Chip, Waiting};
+use crate::state::Chip;
 
 impl Chip {
     // Power-up replaces the state, and so does not test it.
@@ -15,7 +14,7 @@ impl Chip {
         if vram.len() != 16384 {
             return self.refused(Refusal::VramLength);
         }
-        fill(vram, 0);
+        vram.fill(0);
         let fresh = Chip::power_up_state();
         fresh.accepted(0)
     }
@@ -26,7 +25,7 @@ impl Chip {
         if !self.is_well_formed() {
             return self.refused(Refusal::IllFormed);
         }
-        let mut next = self.with_waiting(Waiting::Nothing);
+        let mut next = self.with_waiting(None);
         next.registers[0] = 0;
         next.registers[1] = 0;
         next.status = 0;

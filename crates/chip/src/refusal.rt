@@ -1,12 +1,11 @@
 // Refusals, and the answer that every call gives.
-ghost use Rattle.std.specs.Prelude.{◌≡◌};
-ghost use Rattle.chip.specs.Refusals.{number_of, result_of};
+ghost use Rattle.std.specs.Prelude.{◌≡◌, Ok, Err};
+ghost use Rattle.chip.specs.Refusals.{refusal_number, result_of};
 
 use crate::state::Chip;
 
-#[derive(Clone, Copy)]
+#[derive(Clone, Copy, PartialEq, Eq, Debug)]
 pub enum Refusal {
-    Accepted,
     VramLength,
     SliceLength,
     IllFormed,
@@ -19,20 +18,19 @@ pub enum Refusal {
     ColumnNumber,
 }
 
-// The next state, why the call was refused if it was, and the byte or other number read.
+// The next state, and the byte or other number read; or the state as given, and why the call was refused.
 #[derive(Clone, Copy)]
 pub struct Answer {
     pub chip: Chip,
-    pub refusal: Refusal,
-    pub value: u8,
+    pub result: Result<u8, Refusal>,
 }
 
-impl Refusal {
-    pub fn number(self) -> u32
-        ensures { result ≡ number_of self }
-    {
-        match self {
-            Refusal::Accepted => 0,
+// The refusal's number.
+impl From<Refusal> for u8 {
+    ghost from_gives = { λ r n. n ≡ refusal_number r };
+
+    fn from(refusal: Refusal) -> u8 {
+        match refusal {
             Refusal::VramLength => 1,
             Refusal::SliceLength => 2,
             Refusal::IllFormed => 3,
@@ -48,35 +46,32 @@ impl Refusal {
 }
 
 impl Answer {
-    // One number for a caller in C: 256 times the refusal number, plus the byte read.
+    // One number for a caller in C: the byte read, or 256 times the refusal number. (No `From`: an answer is more than this.)
     pub fn number(self) -> u32
         ensures { result ≡ result_of self }
     {
-        let refusal = self.refusal;
-        refusal.number() * 256 + self.value as u32
+        match self.result {
+            Ok(value) => u32::from(value),
+            Err(refusal) => u32::from(u8::from(refusal)) * 256,
+        }
     }
 }
 
 impl Chip {
-    // The state is handed back, with the refusal and 0 for the number read.
+    // The state is handed back, with the refusal.
     pub fn refused(self, refusal: Refusal) -> Answer
-        ensures { result ≡ record { chip = self; refusal = refusal; value = 0 } }
+        ensures { result ≡ record { chip = self; result = Err refusal } }
     {
-        let given = self;
-        Answer {
-            chip: given,
-            refusal: refusal,
-            value: 0,
-        }
+        let result = Err(refusal);
+        Answer { chip: self, result }
     }
 
     pub fn accepted(self, value: u8) -> Answer
-        ensures { result ≡ record { chip = self; refusal = Refusal.Accepted; value = value } }
+        ensures { result ≡ record { chip = self; result = Ok value } }
     {
         Answer {
             chip: self,
-            refusal: Refusal::Accepted,
-            value: value,
+            result: Ok(value),
         }
     }
 }

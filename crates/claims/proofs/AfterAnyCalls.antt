@@ -4,9 +4,10 @@ use mathlib.Core.Bool.{Bool, true, false}
 use mathlib.Core.List.{List, [], ◌∷◌, ◌++◌}
 use borrow.Author.Tests.{eq-eqb}
 use Rattle.chip.specs.Layout.{block_size, block_of}
-use Rattle.chip.specs.Refusals.{Test, slice_test, number_of, is_accepted, refusal_of}
+use Rattle.std.specs.Prelude.{Ok, Err}
+use Rattle.chip.specs.Refusals.{Outcome, Test, slice_test, number_of, is_accepted, refusal_of}
 use Rattle.chip.proofs.Laws.Layout.{length-block}
-use Rattle.chip.proofs.Laws.Refusals.{AllPass, passed, all_pass, all-accepted, is-accepted}
+use Rattle.chip.proofs.Laws.Refusals.{AllPass, passed, all_pass, all-accepted}
 use Rattle.chip.proofs.Laws.Ready.{Ready}
 use Rattle.frame.specs.Due.{due_count}
 use Rattle.claims.specs.Bench.{Bench, Lengths, Typed}
@@ -16,7 +17,7 @@ use Rattle.claims.specs.Descriptions.{described}
 use Rattle.claims.specs.Step.{Step, step, run, CallsBytes}
 use Rattle.claims.specs.After.{RightFromC, InOrder}
 use Rattle.claims.proofs.Laws.Invariant.{Invariant}
-use Rattle.claims.proofs.Laws.Lawful.{entry_tests}
+use Rattle.claims.proofs.Laws.Lawful.{entry_tests, refusal-number}
 use Rattle.claims.proofs.Laws.Calls.{lawful}
 use Rattle.claims.proofs.Laws.Outcomes.{not-entered-own}
 use Rattle.claims.proofs.Laws.Steps.{step-establishes, run-keeps}
@@ -52,7 +53,7 @@ module _ {b : Bench} (inv : Invariant b) where
 
   directly : (op : Op) → (step b (whole op direct)).reply.refusal ≡ number_of (refusal_of ((described op).brings.tests b.chip))
   unfolding step
-  directly op = (lawful op).refusal b ∙ ap number_of (own-decides b inv.ready inv.lengths (described op))
+  directly op = refusal-number (lawful op) b ∙ ap number_of (own-decides b inv.ready inv.lengths (described op))
 
   -- the tests at entry of VRAM and block pass
   entry-decides : (d : Description) → refusal_of (entry_tests d (block_of b.chip) b) ≡ refusal_of d.from_c.tests
@@ -62,17 +63,16 @@ module _ {b : Bench} (inv : Invariant b) where
 
   through-c : (op : Op) → (described op).from_c.NumbersFit b.vram → (step b (whole op (from_c own))).reply.refusal ≡ number_of (refusal_of ((described op).from_c.tests ++ (described op).brings.tests b.chip))
   unfolding step
-  through-c op numbers = by (is_accepted (refusal_of (described op).from_c.tests)) refl
+  through-c op numbers = by (refusal_of (described op).from_c.tests) refl
     where
-      by : (a : Bool) → is_accepted (refusal_of (described op).from_c.tests) ≡ a → (step b (whole op (from_c own))).reply.refusal ≡ number_of (refusal_of ((described op).from_c.tests ++ (described op).brings.tests b.chip))
-      by true ok =
-          from-c-refusal b typed op (is-accepted _ ok, numbers)
+      by : (r : Outcome) → refusal_of (described op).from_c.tests ≡ r → (step b (whole op (from_c own))).reply.refusal ≡ number_of (refusal_of ((described op).from_c.tests ++ (described op).brings.tests b.chip))
+      by (Ok u) ok =
+          from-c-refusal b typed op (ok, numbers)
           ∙ directly op
-          ∙ sym (ap number_of (all-dropped (described op).from_c.tests ((described op).brings.tests b.chip) (all_pass (described op).from_c.tests (lawful op).only-from-c.can-refuse ok)))
-      by false e =
-          let same = entry-decides (described op) in
-          ap (λ (s : Step). s.reply.refusal) (not-entered-own (lawful op) (whole op direct).lists b inv.ready.fits (ap is_accepted same ∙ e))
-          ∙ ap number_of (same ∙ sym ((lawful op).only-from-c.first b.chip e))
+          ∙ sym (ap number_of (all-dropped (described op).from_c.tests ((described op).brings.tests b.chip) (all_pass (described op).from_c.tests (ap is_accepted ok))))
+      by (Err r) e =
+          ap (λ (s : Step). s.reply.refusal) (not-entered-own (lawful op) (whole op direct).lists b inv.ready.fits (entry-decides (described op) ∙ e))
+          ∙ sym (ap number_of ((lawful op).only-from-c.first b.chip e))
 
   in_order : InOrder b
   in_order = (inv.ready.well-formed, typed, inv.lengths, λ op. (directly op, through-c op))
@@ -98,7 +98,7 @@ after-any-calls start lengths typed first does brings accepted calls bytes =
 pub power-up-accepted : (start : Bench) → Lengths start → Typed start → ((step start (whole power_up direct)).reply.refusal ≡ 0) × ((step start (whole power_up (from_c own))).reply.refusal ≡ 0)
 unfolding step
 power-up-accepted start lengths typed =
-    let ok = ap number_of (all-accepted (tests (described power_up) start) (eq-eqb _ _ lengths.vram, tt)) in
+    let ok = (lawful power_up).accepted start (all-accepted (tests (described power_up) start) (eq-eqb _ _ lengths.vram, tt)) in
     (ok, from-c-refusal start typed power_up (refl, tt) ∙ ok)
 
 -- After power-up and any list of calls a refresh is accepted, directly and from C, and answers the number of due lines.

@@ -3,8 +3,8 @@ use mathlib.Core.Path.{◌≡◌, sym, ap, subst⁻¹, ◌∙◌}
 use mathlib.Core.Bool.{true}
 use mathlib.Core.List.{List}
 use borrow.Author.Tests.{eq-eqb}
-use Rattle.chip.specs.Refusals.{number_of, refusal_of}
-use Rattle.chip.specs.declared.refusal.Refusal.TheVariants.{Accepted}
+use Rattle.std.specs.Prelude.{Ok}
+use Rattle.chip.specs.Refusals.{refusal_of}
 use Rattle.chip.proofs.Laws.Refusals.{all-accepted}
 use Rattle.chip.proofs.Laws.Ready.{Ready}
 use Rattle.claims.specs.Bench.{Bench, Lengths, Typed}
@@ -14,6 +14,7 @@ use Rattle.claims.specs.Descriptions.{described}
 use Rattle.claims.specs.Step.{Step, step, run, CallsBytes}
 use Rattle.claims.specs.After.{RefreshIsFullDraw}
 use Rattle.claims.proofs.Laws.Invariant.{Invariant, drawn, refreshed-drawn}
+use Rattle.claims.proofs.Laws.Calls.{lawful}
 use Rattle.claims.proofs.Laws.Draws.{full-drawn, due-drawn}
 use Rattle.claims.proofs.Laws.Steps.{accepted-step, step-establishes, run-keeps}
 
@@ -21,8 +22,8 @@ use Rattle.claims.proofs.Laws.Steps.{accepted-step, step-establishes, run-keeps}
 full-draw : (b : Bench) → Ready b.chip → Lengths b → ((step b (whole full_draw direct)).reply.refusal ≡ 0) × ((step b (whole full_draw direct)).bench ≡ drawn b.chip b.vram)
 unfolding step
 full-draw b ready lengths =
-    let ok : refusal_of (tests (described full_draw) b) ≡ Accepted = all-accepted (tests (described full_draw) b) (eq-eqb _ _ lengths.vram, (eq-eqb _ _ lengths.map, (eq-eqb _ _ lengths.frame, (eq-eqb _ _ lengths.notes, (ready.well-formed, tt))))) in
-    (ap number_of ok, full-drawn b ok)
+    let ok : refusal_of (tests (described full_draw) b) ≡ Ok tt = all-accepted (tests (described full_draw) b) (eq-eqb _ _ lengths.vram, (eq-eqb _ _ lengths.map, (eq-eqb _ _ lengths.frame, (eq-eqb _ _ lengths.notes, (ready.well-formed, tt))))) in
+    ((lawful full_draw).accepted b ok, full-drawn b ok)
 
 -- an accepted refresh of a bench with the invariant leaves what a full draw leaves
 refresh-drawn : (b : Bench) → Invariant b → (call : Call) → call.op ≡ refresh → (step b call).reply.refusal ≡ 0 → (step b call).bench ≡ drawn b.chip b.vram

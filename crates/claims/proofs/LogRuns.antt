@@ -8,8 +8,8 @@ use lib.Dec.{eqb, leb}
 use lib.ListN.{length, take}
 use borrow.Author.Tests.{eqb-true, eqb-false, not-true, not-false, eq-eqb}
 use Rattle.chip.specs.State.{Bytes}
-use Rattle.chip.specs.Refusals.{number_of}
-use Rattle.chip.specs.declared.refusal.Refusal.TheVariants.{Accepted}
+use Rattle.std.specs.Prelude.{Ok}
+use Rattle.chip.specs.Refusals.{value_of}
 use Rattle.chip.proofs.Laws.Ranges.{and_left, and_right}
 use Rattle.chip.proofs.Laws.Refusals.{all-accepted}
 use Rattle.scanline.specs.Calls.{line_size, draw_line_tests, draw_line_refusal}
@@ -39,21 +39,21 @@ record Made (t : Target) (value : ℕ) (next : Target) (frame notes : List ℕ) 
 
 module _ (frame notes line : List ℕ) (long : length line ≡ 256) where
   made_by : {t : Target} → Sound t → (codes : List ℕ) → length codes ≡ line_size → (op : Operation) (v : ℕ) → value_allowed op v ≡ true
-      → Made t (answer_by op v t).value (target (answer_by op v t).chip (vram_by op v t) (map_by op v t) (line_by op v t)) frame notes (step (bench_on frame notes t) (whole (single_by op v line codes) direct))
+      → Made t (value_of (answer_by op v t).result) (target (answer_by op v t).chip (vram_by op v t) (map_by op v t) (line_by op v t)) frame notes (step (bench_on frame notes t) (whole (single_by op v line codes) direct))
   unfolding step answer_by vram_by map_by line_by
-  made_by {t} s codes wide DataWrite v ok = let a = all-accepted (tests_by DataWrite v t) (passes s DataWrite v ok) in record { bench = refl; refusal = ap number_of a; values = refl; slice = refl }
-  made_by {t} s codes wide ControlWrite v ok = let a = all-accepted (tests_by ControlWrite v t) (passes s ControlWrite v ok) in record { bench = refl; refusal = ap number_of a; values = refl; slice = refl }
-  made_by {t} s codes wide DataRead v ok = let a = all-accepted (tests_by DataRead v t) (passes s DataRead v ok) in record { bench = refl; refusal = ap number_of a; values = refl; slice = refl }
-  made_by {t} s codes wide StatusRead v ok = let a = all-accepted (tests_by StatusRead v t) (passes s StatusRead v ok) in record { bench = refl; refusal = ap number_of a; values = refl; slice = refl }
+  made_by {t} s codes wide DataWrite v ok = let a = all-accepted (tests_by DataWrite v t) (passes s DataWrite v ok) in record { bench = refl; refusal = rw a; values = refl; slice = refl }
+  made_by {t} s codes wide ControlWrite v ok = let a = all-accepted (tests_by ControlWrite v t) (passes s ControlWrite v ok) in record { bench = refl; refusal = rw a; values = refl; slice = refl }
+  made_by {t} s codes wide DataRead v ok = let a = all-accepted (tests_by DataRead v t) (passes s DataRead v ok) in record { bench = refl; refusal = rw a; values = refl; slice = refl }
+  made_by {t} s codes wide StatusRead v ok = let a = all-accepted (tests_by StatusRead v t) (passes s StatusRead v ok) in record { bench = refl; refusal = rw a; values = refl; slice = refl }
   made_by {t} s codes wide DrawLine v ok =
       let p = passes s DrawLine v ok in
-      let a : draw_colours_refusal t.chip t.vram t.line v ≡ Accepted = all-accepted (draw_colours_tests t.chip t.vram t.line v) p in
-      let b : draw_line_refusal t.chip t.vram line codes v ≡ Accepted = all-accepted (draw_line_tests t.chip t.vram line codes v) (p.0, (p.1.0, (eq-eqb _ _ long, (eq-eqb _ _ wide, (ok, tt))))) in
-      record { bench = rw (a, b); refusal = ap number_of b; values = rw (a, b); slice = rw (a, b) }
-  made_by {t} s codes wide EndOfDisplay v ok = let a = all-accepted (tests_by EndOfDisplay v t) (passes s EndOfDisplay v ok) in record { bench = refl; refusal = ap number_of a; values = refl; slice = refl }
-  made_by {t} s codes wide Reset v ok = let a = all-accepted (tests_by Reset v t) (passes s Reset v ok) in record { bench = refl; refusal = ap number_of a; values = refl; slice = refl }
+      let a : draw_colours_refusal t.chip t.vram t.line v ≡ Ok tt = all-accepted (draw_colours_tests t.chip t.vram t.line v) p in
+      let b : draw_line_refusal t.chip t.vram line codes v ≡ Ok tt = all-accepted (draw_line_tests t.chip t.vram line codes v) (p.0, (p.1.0, (eq-eqb _ _ long, (eq-eqb _ _ wide, (ok, tt))))) in
+      record { bench = rw (a, b); refusal = rw b; values = rw (a, b); slice = rw (a, b) }
+  made_by {t} s codes wide EndOfDisplay v ok = let a = all-accepted (tests_by EndOfDisplay v t) (passes s EndOfDisplay v ok) in record { bench = refl; refusal = rw a; values = refl; slice = refl }
+  made_by {t} s codes wide Reset v ok = let a = all-accepted (tests_by Reset v t) (passes s Reset v ok) in record { bench = refl; refusal = rw a; values = refl; slice = refl }
 
-  made : {t : Target} → Sound t → (codes : List ℕ) → length codes ≡ line_size → (r : Record) → allowed r ≡ true → Made t (answer_to r t).value (after r t) frame notes (step (bench_on frame notes t) (single line codes r))
+  made : {t : Target} → Sound t → (codes : List ℕ) → length codes ≡ line_size → (r : Record) → allowed r ≡ true → Made t (value_of (answer_to r t).result) (after r t) frame notes (step (bench_on frame notes t) (single line codes r))
   unfolding allowed
   made s codes wide r ok = made_by s codes wide (operation_of r.operation) r.value (and_right (leb r.operation 6) (value_allowed (operation_of r.operation) r.value) ok)
 
@@ -82,14 +82,14 @@ module _ (frame notes line : List ℕ) (long : length line ≡ 256) where
   from-here codes wide i [] s ok h =
       record { done = 0; place = 0; is-done = omega arith; is-place = omega arith; leaves = refl; slice = refl; expected = tt; ending = no_difference refl refl refl }
   from-here codes wide i (r ∷ rs) {t} s ok h =
-      by (differs r (answer_to r t).value) refl
+      by (differs r (value_of (answer_to r t).result)) refl
       (from-here (later codes) (λ k. wide (suc k)) (i + 1) rs (sound-after s r h.0) (and_right (allowed r) (all_allowed rs) ok) h.1)
     where
-      m : Made t (answer_to r t).value (after r t) frame notes (step (bench_on frame notes t) (single line (codes 0) r))
+      m : Made t (value_of (answer_to r t).result) (after r t) frame notes (step (bench_on frame notes t) (single line (codes 0) r))
       m = made s (codes 0) (wide 0) r (and_left (allowed r) (all_allowed rs) ok)
 
-      by : (b : Bool) → differs r (answer_to r t).value ≡ b → FromHere (later codes) (i + 1) rs (after r t) (bench_on frame notes (after r t)) (after r t).line (run_from (i + 1) rs (after r t))
-          → FromHere codes i (r ∷ rs) t (bench_on frame notes t) t.line (cond b (record { target = after r t; done = i + 1; place = i; found = (answer_to r t).value }) (run_from (i + 1) rs (after r t)))
+      by : (b : Bool) → differs r (value_of (answer_to r t).result) ≡ b → FromHere (later codes) (i + 1) rs (after r t) (bench_on frame notes (after r t)) (after r t).line (run_from (i + 1) rs (after r t))
+          → FromHere codes i (r ∷ rs) t (bench_on frame notes t) t.line (cond b (record { target = after r t; done = i + 1; place = i; found = value_of (answer_to r t).result }) (run_from (i + 1) rs (after r t)))
       by true e rest =
           record {
             done = 1;
@@ -111,7 +111,7 @@ module _ (frame notes line : List ℕ) (long : length line ≡ 256) where
             is-place = let p = rest.is-place in omega arith;
             leaves = rest.leaves ∙ ap (λ (k : Bench). run k (singles line (later codes) (take rest.done rs))) (sym m.bench);
             slice = rest.slice ∙ (λ j. last_line line (later codes) (sym m.bench j) (take rest.done rs) (sym m.slice j));
-            expected = (m.refusal, λ read. m.values ∙ ap (λ (x : ℕ). x ∷ []) (as-expected r (answer_to r t).value e read), subst⁻¹ (λ (k : Bench). AsExpected line (later codes) k (take rest.place rs)) m.bench rest.expected);
+            expected = (m.refusal, λ read. m.values ∙ ap (λ (x : ℕ). x ∷ []) (as-expected r (value_of (answer_to r t).result) e read), subst⁻¹ (λ (k : Bench). AsExpected line (later codes) k (take rest.place rs)) m.bench rest.expected);
             ending = ending-later (subst⁻¹ (λ (k : Bench). Ending line (later codes) k rs rest.done rest.place (run_from (i + 1) rs (after r t)).found) m.bench rest.ending);
           }
 
@@ -133,7 +133,7 @@ pub run-is-single-calls :
 run-is-single-calls b typed call line log outcome is bytes zero codes wide =
     let out = accepted-step b typed.chip call is (typed.vram, bytes) zero in
     let p = out.0 in
-    let ok : run_refusal b.chip b.vram b.map line log ≡ Accepted = all-accepted (run_tests b.chip b.vram b.map line log) p in
+    let ok : run_refusal b.chip b.vram b.map line log ≡ Ok tt = all-accepted (run_tests b.chip b.vram b.map line log) p in
     let sound = accepted-sound b.chip b.vram b.map line log ok typed.chip typed.vram in
     let rs : List Record = records_of (record_bytes log) in
     let e : End = end_of b.chip b.vram b.map line log in

@@ -2,7 +2,7 @@
 use mathlib.Core.Path.{◌≡◌, refl, sym, ap, subst⁻¹, ◌∙◌}
 use mathlib.Core.Bool.{true}
 use Rattle.chip.specs.State.{Fits}
-use Rattle.chip.specs.Refusals.{number_of, is_accepted}
+use Rattle.chip.specs.Refusals.{is_accepted}
 use Rattle.chip.proofs.Laws.Refusals.{all-accepted, all_pass, differ}
 use Rattle.claims.specs.Bench.{Bench}
 use Rattle.claims.specs.Call.{own, direct, from_c, Call, made_by}
@@ -22,7 +22,7 @@ pub from-c : (b : Bench) → Fits b.chip → (call : Call) → RightFromC call.o
 unfolding step
 from-c b fits call right =
     let law = lawful call.op in
-    from-c-same law call.lists b fits right.1 (all_pass (described call.op).from_c.tests law.only-from-c.can-refuse (ap is_accepted right.0))
+    from-c-same law call.lists b fits right.1 (all_pass (described call.op).from_c.tests (ap is_accepted right.0))
 
 -- A refused call leaves the bench as it was, answers no number and leaves the slices that are its own: on every state that fits
 -- its types, well-formed or not, and whatever was lent. (FitNumbers asks something of a point's colour and of a run from C alone: that
@@ -32,7 +32,7 @@ refused-leaves b fits call numbers some = by (step-outcome b fits call numbers)
   where
     by : Outcome (described call.op) (wrongly_lent call) b (step b call) → LeftAsLent b call (step b call)
     by (accepted p given same) =
-        let zero : ((described call.op).directly b).reply.refusal ≡ 0 = (lawful call.op).refusal b ∙ ap number_of (all-accepted (tests (described call.op) b) p) in
+        let zero : ((described call.op).directly b).reply.refusal ≡ 0 = (lawful call.op).accepted b (all-accepted (tests (described call.op) b) p) in
         absurd (some (ap (λ (s : Step). s.reply.refusal) same ∙ zero))
     by (refused n not-zero same) = subst⁻¹ (LeftAsLent b call) same refl
 

@@ -1,9 +1,8 @@
 -- What can hold after a call.
-use Rattle.std.specs.Prelude.{ℕ, ◌<◌, ◌≡◌, Bool, true, false, ◌&&◌, ◌||◌, List, [], ◌∷◌, ◌++◌, length, get_or, replicate}
+use Rattle.std.specs.Prelude.{ℕ, ◌<◌, ◌≡◌, Bool, true, false, ◌&&◌, ◌||◌, List, [], ◌∷◌, ◌++◌, length, get_or, replicate, Ok}
 use Rattle.chip.specs.State.{well_formed}
 use Rattle.chip.specs.Map.{map_size}
 use Rattle.chip.specs.Refusals.{number_of, refusal_of}
-use Rattle.chip.specs.declared.refusal.Refusal.TheVariants.{Accepted}
 use Rattle.scanline.specs.Calls.{note_at, colours}
 use Rattle.frame.specs.Lines.{line_count, frame_size, notes_size, line_at}
 use Rattle.frame.specs.Due.{due, due_count}
@@ -49,7 +48,7 @@ FitNumbers (from_c block) d vram = d.from_c.NumbersFit vram
 -- What there is to a call from C alone is right: a slice for numbers passes its tests, and the numbers fit into their bytes. (Of
 -- every call but the run of a log and the colour of a point this asks nothing.)
 abbrev pub RightFromC : Op → List ℕ → Type 0
-RightFromC op vram = (refusal_of (described op).from_c.tests ≡ Accepted) × (described op).from_c.NumbersFit vram
+RightFromC op vram = (refusal_of (described op).from_c.tests ≡ Ok tt) × (described op).from_c.NumbersFit vram
 
 -- A bench in order: its state is well-formed, all values fit their types and all lists have their lengths. So a call that
 -- is lent the bench's lists is refused only by the tests of what it brings, and from C by those of what is lent from C alone.

@@ -1,13 +1,10 @@
 -- The cases at the edges, P1 to P12: each runs the whole definitions from a state in which a wrong answer would show.
-use Rattle.std.specs.Prelude.{ℕ, ◌+◌, ◌≡◌, true, false, List, [], ◌∷◌, ◌++◌, set, replicate}
+use Rattle.std.specs.Prelude.{ℕ, ◌+◌, ◌≡◌, true, false, List, [], ◌∷◌, ◌++◌, set, replicate, Option, None, Some, Ok}
 use Rattle.std.proofs.lemmas.List.Edits.{sets}
 use Rattle.chip.specs.State.{with_lost}
 use Rattle.chip.specs.Calls.{control_write, data_write, data_write_vram, data_write_map, status_read}
 use Rattle.scanline.specs.Calls.{colours, draw_line}
 use Rattle.chip.specs.declared.state.Chip.{Chip}
-use Rattle.chip.specs.declared.state.Waiting.{Waiting}
-use Rattle.chip.specs.declared.state.Waiting.TheVariants.{Nothing, First}
-use Rattle.chip.specs.declared.refusal.Refusal.TheVariants.{Accepted}
 
 -- A case: its number, and what it claims.
 pub record Case : Type 1 where
@@ -50,24 +47,24 @@ registers = 0x02 ∷ 0xE0 ∷ 0x05 ∷ 0x80 ∷ 0x01 ∷ 0x20 ∷ 0x03 ∷ 0xF1 
 abbrev pub lost_before : ℕ
 lost_before = 0x03FF
 
-abbrev pub state : ℕ → ℕ → Waiting → ℕ → Chip
+abbrev pub state : ℕ → ℕ → Option ℕ → ℕ → Chip
 state address buffer waiting status =
     record { registers = registers; address = address; buffer = buffer; waiting = waiting; status = status; redraw = false; lost = lost_before }
 
 abbrev pub start : PortBench
-start = record { chip = state 0x1234 0x99 Nothing 0x4C; vram = memory; map = none_dirty }
+start = record { chip = state 0x1234 0x99 None 0x4C; vram = memory; map = none_dirty }
 
 -- P1: control 42, 40, data AA: VRAM 0042 and the buffer are AA, the address 0043; the byte is dirty, and all else stays.
 abbrev pub P1 : Type 0
-P1 = write 0xAA (control 0x40 (control 0x42 start)) ≡ record { chip = state 0x43 0xAA Nothing 0x4C; vram = set memory 0x42 0xAA; map = set none_dirty 8 4 }
+P1 = write 0xAA (control 0x40 (control 0x42 start)) ≡ record { chip = state 0x43 0xAA None 0x4C; vram = set memory 0x42 0xAA; map = set none_dirty 8 4 }
 
 -- P2: control FF, 7F, data 11: VRAM 3FFF is 11, and the address goes on to 0.
 abbrev pub P2 : Type 0
-P2 = write 0x11 (control 0x7F (control 0xFF start)) ≡ record { chip = state 0 0x11 Nothing 0x4C; vram = set memory 0x3FFF 0x11; map = set none_dirty 2047 128 }
+P2 = write 0x11 (control 0x7F (control 0xFF start)) ≡ record { chip = state 0 0x11 None 0x4C; vram = set memory 0x3FFF 0x11; map = set none_dirty 2047 128 }
 
 -- P3: control FF, 3F: the buffer is VRAM 3FFF, and the address goes on to 0.
 abbrev pub P3 : Type 0
-P3 = control 0x3F (control 0xFF start) ≡ record { chip = state 0 0x5C Nothing 0x4C; vram = memory; map = none_dirty }
+P3 = control 0x3F (control 0xFF start) ≡ record { chip = state 0 0x5C None 0x4C; vram = memory; map = none_dirty }
 
 -- P4: control FF, 82: register 2 keeps 0F, and the address is 02FF; the register altered, so the redraw mark is set.
 abbrev pub P4 : Type 0
@@ -79,7 +76,7 @@ P4 =
             registers = set registers 2 0x0F;
             address = 0x02FF;
             buffer = 0x99;
-            waiting = Nothing;
+            waiting = None;
             status = 0x4C;
             redraw = true;
             lost = lost_before;
@@ -93,7 +90,7 @@ P4 =
 abbrev pub P5 : Type 0
 P5 =
     control 0x07 (status (control 0xFF start))
-    ≡ record { chip = with_lost (lost_before + 1) (state 0x1234 0x99 (First 0x07) 0x0C); vram = memory; map = none_dirty }
+    ≡ record { chip = with_lost (lost_before + 1) (state 0x1234 0x99 (Some 0x07) 0x0C); vram = memory; map = none_dirty }
 
 -- A memory for one sprite: attributes at 1000 with a terminator behind it, its pattern at 1800, its colour 15. Names,
 -- patterns and colours of the plane are zero.
@@ -150,7 +147,7 @@ with_five = sets (sets (replicate 16384 0) 0x1000 five_sprites) 0x1800 all_set
 -- The state before line 100 is drawn, with this status, and the state after it.
 abbrev pub sprite_state : ℕ → Chip
 sprite_state s =
-    record { registers = sprite_registers 0; address = 0x1234; buffer = 0x99; waiting = Nothing; status = s; redraw = false; lost = lost_before }
+    record { registers = sprite_registers 0; address = 0x1234; buffer = 0x99; waiting = None; status = s; redraw = false; lost = lost_before }
 
 abbrev pub after100 : ℕ → Chip
 after100 s = (draw_line (sprite_state s) with_five (replicate 256 0) (replicate 256 0) 100).chip
@@ -162,7 +159,7 @@ P9 = (after100 0x00 ≡ sprite_state 0x4C) × (after100 0x80 ≡ sprite_state 0x
 
 -- P10: reading status 4C returns 4C and leaves 0C.
 abbrev pub P10 : Type 0
-P10 = status_read start.chip ≡ record { chip = state 0x1234 0x99 Nothing 0x0C; refusal = Accepted; value = 0x4C }
+P10 = status_read start.chip ≡ record { chip = state 0x1234 0x99 None 0x0C; result = Ok 0x4C }
 
 -- P11: all planes 0: colour 1 with external video off, 0 with it on.
 abbrev pub P11 : Type 0

@@ -1,11 +1,13 @@
 -- What is said of a call, once for each call: what it is lent, what it tests, what it answers, and the call itself.
-use Rattle.std.specs.Prelude.{ℕ, ◌/◌, ◌%◌, ◌<◌, Bool, true, false, cond, List, [], ◌∷◌, eqb}
+use Rattle.std.specs.Prelude.{ℕ, ◌/◌, ◌%◌, ◌<◌, Bool, true, false, cond, List, [], ◌∷◌, eqb, Result, Ok, Err}
 use Rattle.chip.specs.Map.{map_size}
-use Rattle.chip.specs.Refusals.{Test, number_of, vram_test, slice_test, state_test}
+use Rattle.chip.specs.Refusals.{Test, number_of, value_of, vram_test, slice_test, state_test}
 use Rattle.chip.specs.declared.state.Chip.{Chip}
 use Rattle.chip.specs.declared.refusal.Answer.{Answer}
+use Rattle.chip.specs.declared.refusal.Refusal.{Refusal}
 use Rattle.frame.specs.Lines.{frame_size, notes_size}
 use Rattle.chip.specs.TwoBytes.{low_first_at}
+use Rattle.port_log.specs.declared.running.Reached.{Reached}
 use Rattle.port_log.specs.declared.running.Ran.{Ran}
 use Rattle.birdcleft.specs.Calls.{FromC}
 use Rattle.claims.specs.Bench.{Bench}
@@ -110,7 +112,7 @@ pub record Returned (S : Type 0) : Type 0 where
   pub values : List ℕ
 
 abbrev pub of_answer : Answer → Returned Chip
-of_answer a = record { state = a.chip; refusal = number_of a.refusal; values = a.value ∷ [] }
+of_answer a = record { state = a.chip; refusal = number_of a.result; values = value_of a.result ∷ [] }
 
 -- From C one result holds both numbers: divided by 256 it gives the refusal's, and the remainder is the other.
 abbrev pub of_result : List ℕ → ℕ → Returned (List ℕ)
@@ -119,9 +121,13 @@ of_result block n = record { state = block; refusal = n / 256; values = n % 256 
 abbrev pub of_from_c : FromC → Returned (List ℕ)
 of_from_c r = of_result r.block r.result
 
--- A run answers three numbers: the byte found, the records done, and the place.
+-- A run answers three numbers: the byte found, the records done, and the place; or 0 for each.
+abbrev pub reached_values : Result Reached Refusal → List ℕ
+reached_values (Ok reached) = reached.found ∷ reached.done ∷ reached.place ∷ []
+reached_values (Err r) = 0 ∷ 0 ∷ 0 ∷ []
+
 abbrev pub of_ran : Ran → Returned Chip
-of_ran r = record { state = r.chip; refusal = number_of r.refusal; values = r.found ∷ r.done ∷ r.place ∷ [] }
+of_ran r = record { state = r.chip; refusal = number_of r.result; values = reached_values r.result }
 
 -- From C the last two stand in the outcome, where it is accepted. (What the outcome holds after a refused run, the contract of the
 -- call says: it is as lent.)

@@ -3,3 +3,4 @@ pub mod Clear
 pub mod Marks
 pub mod Rows
 pub mod Plane
+pub mod Tables

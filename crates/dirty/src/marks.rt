@@ -4,6 +4,7 @@ ghost use Rattle.chip.specs.Bits.{bit};
 ghost use Rattle.chip.specs.State.{masked};
 ghost use Rattle.dirty.specs.Marks.{attributes_at, patterns_at, CleanPart, CleanYs, Marks};
 
+use crate::clear::bits_of;
 use crate::part::part_dirty;
 
 // The first of the 16 bytes of the map that stand for the attribute table.
@@ -35,13 +36,7 @@ pub fn ys_clear(map: &[u8], from: usize) -> bool
     requires { from + 16 ≤ length map.now }
     ensures { result ≡ true → CleanYs map.now (from * 8) }
 {
-    let mut joined: u8 = 0;
-    let mut i = 0;
-    while i < 16 {
-        joined |= map[from + i];
-        i += 1;
-    }
-    joined & 0x11 == 0
+    bits_of(&map[from..from + 16]) & 0x11 == 0
 }
 
 // The marks of the two sprites that a byte of the map stands for.
@@ -59,10 +54,8 @@ pub fn marks_of(map: &[u8], from: usize) -> u32
     ensures { Marks map.now (from * 8) result }
 {
     let mut marks: u32 = 0;
-    let mut i: usize = 0;
-    while i < 16 {
-        marks |= pair_marks(map[from + i]) << (2 * i);
-        i += 1;
+    for (i, byte) in map[from..from + 16].iter().enumerate() {
+        marks |= pair_marks(*byte) << (2 * i);
     }
     marks
 }

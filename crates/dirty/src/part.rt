@@ -9,6 +9,5 @@ pub fn part_dirty(map: &[u8], from: usize, n: usize) -> bool
     requires { from + n ≤ length map.now }
     ensures { result ≡ part_dirty map.now from n }
 {
-    let end = from + n;
-    !is_clear(&map[from..end])
+    !is_clear(&map[from..from + n])
 }

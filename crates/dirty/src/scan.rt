@@ -9,7 +9,7 @@ ghost use Rattle.dirty.specs.Marks.{attributes_at, Quiet, Marks, scan_dirty};
 
 use crate::marks::{attributes_from, marks_of, patterns_clear, ys_clear};
 use crate::part::part_dirty;
-use chip::set_bit;
+use chip::{Screen, set_bit};
 use sprites::scan_dirty;
 
 // Whether no byte that a scan can read is dirty.
@@ -17,35 +17,24 @@ pub fn sprites_clear(r: [u8; 8], map: &[u8]) -> bool
     requires { (masked r ≡ true) × (length map.now ≡ 2048) }
     ensures { result ≡ true → (l : ℕ) (vram : List ℕ) → Bytes vram → any_dirty map.now (fetched (scan_of r l) vram) ≡ false }
 {
-    !part_dirty(map, attributes_from(r), 16) & patterns_clear(r, map)
+    !part_dirty(map, attributes_from(r), 16) && patterns_clear(r, map)
 }
 
 // Whether the scan of line l fetches a dirty byte. Where neither a Y nor a pattern is dirty, it does not if no sprite that covers
 // the line is marked.
-fn line_marked(
-    r: [u8; 8],
-    vram: &[u8],
-    map: &[u8],
-    l: u8,
-    set: u32,
-    marks: u32,
-    quiet: bool,
-) -> bool
-    requires { (masked r ≡ true) × (length vram.now ≡ 16384) × (length map.now ≡ 2048) × IsSet r vram.now l set × Marks map.now (attributes_at r) marks × (quiet ≡ true → Quiet r map.now) }
-    ensures { result ≡ scan_dirty r vram.now map.now l }
+fn line_marked(screen: Screen, map: &[u8], l: u8, set: u32, marks: u32, quiet: bool) -> bool
+    requires { (length map.now ≡ 2048) × IsSet screen.registers screen.vram.now l set × Marks map.now (attributes_at screen.registers) marks × (quiet ≡ true → Quiet screen.registers map.now) }
+    ensures { result ≡ scan_dirty screen.entry.registers screen.entry.vram.now map.now l }
 {
-    if quiet {
-        if set & marks == 0 {
-            return false;
-        }
+    if quiet && set & marks == 0 {
+        return false;
     }
-    scan_dirty(r, vram, map, l)
+    scan_dirty(screen, map, l)
 }
 
 // Adds the answers of a row's eight lines to its byte. Where all of them are dirty already no sprite is looked at.
 fn row_marked(
-    r: [u8; 8],
-    vram: &[u8],
+    screen: Screen,
     map: &[u8],
     sets: &[u32],
     row: usize,
@@ -53,36 +42,32 @@ fn row_marked(
     marks: u32,
     quiet: bool,
 ) -> u8
-    requires { (masked r ≡ true) × (length vram.now ≡ 16384) × (length map.now ≡ 2048) × Sets r vram.now sets.now × (row < 24) × Marks map.now (attributes_at r) marks × (quiet ≡ true → Quiet r map.now) }
-    ensures { (k : ℕ) → k < 8 → bit k result ≡ (bit k before || scan_dirty r vram.now map.now (8 * row + k)) }
+    requires { (length map.now ≡ 2048) × Sets screen.registers screen.vram.now sets.now × (row < 24) × Marks map.now (attributes_at screen.registers) marks × (quiet ≡ true → Quiet screen.registers map.now) }
+    ensures { (k : ℕ) → k < 8 → bit k result ≡ (bit k before || scan_dirty screen.entry.registers screen.entry.vram.now map.now (8 * row + k)) }
 {
     if before == 255 {
         return before;
     }
     let mut byte = before;
-    let mut k: usize = 0;
-    while k < 8 {
+    for k in 0..8 {
         let l = 8 * row + k;
-        if line_marked(r, vram, map, l as u8, sets[l], marks, quiet) {
+        if line_marked(screen, map, l as u8, sets[l], marks, quiet) {
             byte = set_bit(byte, k as u8);
         }
-        k += 1;
     }
     byte
 }
 
 // Adds to the rows' bytes the lines whose scan fetches a dirty byte.
-pub fn add_marked(r: [u8; 8], vram: &[u8], map: &[u8], sets: &[u32], rows: &mut [u8])
-    requires { (masked r ≡ true) × (length vram.now ≡ 16384) × (length map.now ≡ 2048) × Sets r vram.now sets.now × (length rows.old ≡ 24) }
+pub fn add_marked(screen: Screen, map: &[u8], sets: &[u32], rows: &mut [u8])
+    requires { (length map.now ≡ 2048) × Sets screen.registers screen.vram.now sets.now × (length rows.old ≡ 24) }
     ensures rows_len { length rows.new ≡ 24 }
-    ensures by_index { (row k : ℕ) → row < 24 → k < 8 → bit k (get_or rows.new row 0) ≡ (bit k (get_or rows.old row 0) || any_dirty map.now (fetched (scan_of r (8 * row + k)) vram.now)) }
+    ensures by_index { (row k : ℕ) → row < 24 → k < 8 → bit k (get_or rows.new row 0) ≡ (bit k (get_or rows.old row 0) || any_dirty map.now (fetched (scan_of screen.entry.registers (8 * row + k)) screen.entry.vram.now)) }
 {
-    let from = attributes_from(r);
-    let quiet = ys_clear(map, from) & patterns_clear(r, map);
+    let from = attributes_from(screen.registers);
+    let quiet = ys_clear(map, from) && patterns_clear(screen.registers, map);
     let marks = marks_of(map, from);
-    let mut row = 0;
-    while row < 24 {
-        rows[row] = row_marked(r, vram, map, sets, row, rows[row], marks, quiet);
-        row += 1;
+    for (row, byte) in rows.iter_mut().enumerate() {
+        *byte = row_marked(screen, map, sets, row, *byte, marks, quiet);
     }
 }

@@ -1,11 +1,19 @@
 // Where the bits of the pattern plane's tables stand in the map: a byte for eight bytes of a table.
 ghost use Rattle.std.specs.Prelude.{◌≡◌, true, ◌*◌, ◌<◌, ◌+◌};
 ghost use Rattle.chip.specs.State.{masked};
-ghost use Rattle.chip.specs.Tables.{names, patterns, colours, base, size};
+ghost use Rattle.chip.specs.Tables.{names, base, size};
 ghost use Rattle.dirty.specs.Plane.{third_of};
+ghost use Rattle.dirty.specs.Tables.{table_of};
 ghost use Rattle.planes.specs.Cells.{cells_in};
 
 use chip::Mode;
+
+// The two tables that names choose from.
+#[derive(Clone, Copy)]
+pub enum Table {
+    Patterns,
+    Colours,
+}
 
 // How many bytes a row of names takes.
 pub fn names_long(mode: Mode) -> usize
@@ -13,9 +21,7 @@ pub fn names_long(mode: Mode) -> usize
 {
     match mode {
         Mode::Blank => 0,
-        Mode::GraphicsI => 4,
-        Mode::GraphicsII => 4,
-        Mode::Multicolor => 4,
+        Mode::GraphicsI | Mode::GraphicsII | Mode::Multicolor => 4,
         Mode::Text => 5,
     }
 }
@@ -28,57 +34,28 @@ pub fn names_from(mode: Mode, r: [u8; 8], row: usize) -> usize
     r[2] as usize * 128 + row * names_long(mode)
 }
 
-// The pattern table's first byte, and how many it has.
-pub fn patterns_from(mode: Mode, r: [u8; 8]) -> usize
+// A table's first byte. Graphics II takes only the highest bit of its register.
+pub fn table_from(mode: Mode, table: Table, r: [u8; 8]) -> usize
     requires { masked r ≡ true }
-    ensures { 8 * result ≡ base mode patterns r }
+    ensures { 8 * result ≡ base mode (table_of table) r }
 {
-    let b = r[4] as usize;
-    match mode {
-        Mode::Blank => b * 256,
-        Mode::GraphicsI => b * 256,
-        Mode::GraphicsII => b / 4 * 1024,
-        Mode::Multicolor => b * 256,
-        Mode::Text => b * 256,
+    match (mode, table) {
+        (Mode::GraphicsII, Table::Patterns) => r[4] as usize / 4 * 1024,
+        (Mode::GraphicsII, Table::Colours) => r[3] as usize / 128 * 1024,
+        (_, Table::Patterns) => r[4] as usize * 256,
+        (_, Table::Colours) => r[3] as usize * 8,
     }
 }
 
-pub fn patterns_long(mode: Mode) -> usize
-    ensures { 8 * result ≡ size mode patterns }
+// How many bytes it has.
+pub fn table_long(mode: Mode, table: Table) -> usize
+    ensures { 8 * result ≡ size mode (table_of table) }
 {
-    match mode {
-        Mode::Blank => 0,
-        Mode::GraphicsI => 256,
-        Mode::GraphicsII => 768,
-        Mode::Multicolor => 256,
-        Mode::Text => 256,
-    }
-}
-
-// The colour table's.
-pub fn colours_from(mode: Mode, r: [u8; 8]) -> usize
-    requires { masked r ≡ true }
-    ensures { 8 * result ≡ base mode colours r }
-{
-    let b = r[3] as usize;
-    match mode {
-        Mode::Blank => b * 8,
-        Mode::GraphicsI => b * 8,
-        Mode::GraphicsII => b / 128 * 1024,
-        Mode::Multicolor => b * 8,
-        Mode::Text => b * 8,
-    }
-}
-
-pub fn colours_long(mode: Mode) -> usize
-    ensures { 8 * result ≡ size mode colours }
-{
-    match mode {
-        Mode::Blank => 0,
-        Mode::GraphicsI => 4,
-        Mode::GraphicsII => 768,
-        Mode::Multicolor => 0,
-        Mode::Text => 0,
+    match (mode, table) {
+        (Mode::GraphicsII, _) => 768,
+        (Mode::GraphicsI | Mode::Multicolor | Mode::Text, Table::Patterns) => 256,
+        (Mode::GraphicsI, Table::Colours) => 4,
+        (Mode::Multicolor | Mode::Text, Table::Colours) | (Mode::Blank, _) => 0,
     }
 }
 
@@ -88,10 +65,7 @@ pub fn third_of(mode: Mode, row: usize) -> usize
     ensures { result ≡ third_of mode row }
 {
     match mode {
-        Mode::Blank => 0,
-        Mode::GraphicsI => 0,
         Mode::GraphicsII => row / 8 * 256,
-        Mode::Multicolor => 0,
-        Mode::Text => 0,
+        Mode::Blank | Mode::GraphicsI | Mode::Multicolor | Mode::Text => 0,
     }
 }

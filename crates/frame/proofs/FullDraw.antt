@@ -9,8 +9,8 @@ use borrow.Author.Tests.{eq-eqb}
 use Rattle.chip.specs.State.{well_formed, with_redraw}
 use Rattle.chip.specs.Refusals.{vram_test, slice_test, state_test}
 use Rattle.chip.specs.declared.state.Chip.{Chip}
-use Rattle.chip.specs.declared.refusal.Refusal.TheVariants.{Accepted}
-use Rattle.chip.proofs.Laws.Refusals.{the-new, all-accepted}
+use Rattle.std.specs.Prelude.{Ok}
+use Rattle.chip.proofs.Laws.Refusals.{the-new, the-value, all-accepted}
 use Rattle.scanline.specs.Notes.{status_through}
 use Rattle.scanline.specs.Calls.{colours, draw_line}
 use Rattle.scanline.specs.LineDraws.{Slices, state_after, drawn_line}
@@ -20,7 +20,7 @@ use Rattle.frame.specs.Draw.{frame_of, notes_of, drawn_state}
 use Rattle.frame.specs.Calls.{draw_refusal, full_draw, full_draw_frame, full_draw_notes}
 use Rattle.frame.proofs.Laws.Lines.{end_same}
 
-full-accepted : (c : Chip) (vram map frame notes : List ℕ) → well_formed c ≡ true → length vram ≡ 16384 → length map ≡ 2048 → length frame ≡ 49152 → length notes ≡ 192 → draw_refusal c vram map frame notes ≡ Accepted
+full-accepted : (c : Chip) (vram map frame notes : List ℕ) → well_formed c ≡ true → length vram ≡ 16384 → length map ≡ 2048 → length frame ≡ 49152 → length notes ≡ 192 → draw_refusal c vram map frame notes ≡ Ok tt
 full-accepted c vram map frame notes ok v m f n =
     all-accepted (vram_test vram ∷ slice_test 2048 map ∷ slice_test 49152 frame ∷ slice_test 192 notes ∷ state_test c ∷ [])
     (eq-eqb _ _ v, (eq-eqb _ _ m, (eq-eqb _ _ f, (eq-eqb _ _ n, (ok, tt)))))
@@ -36,8 +36,8 @@ pub full-draw-is-line-draws : (c : Chip) → well_formed c ≡ true
     → (vram : List ℕ) → length vram ≡ 16384
     → (map frame notes : List ℕ) → length map ≡ 2048 → length frame ≡ 49152 → length notes ≡ 192
     → (slices : Slices) → ((l : ℕ) → (length (slices.line l) ≡ 256) × (length (slices.codes l) ≡ 256))
-    → ((full_draw c vram map frame notes).refusal ≡ Accepted)
-    × ((l : ℕ) → l < 192 → (draw_line (state_after l c vram slices) vram (slices.line l) (slices.codes l) l).refusal ≡ Accepted)
+    → ((full_draw c vram map frame notes).result ≡ Ok 0)
+    × ((l : ℕ) → l < 192 → (draw_line (state_after l c vram slices) vram (slices.line l) (slices.codes l) l).result ≡ Ok 0)
     × (full_draw_frame c vram map frame notes ≡ lines_end_to_end 192 (drawn_line c vram slices))
     × ((full_draw c vram map frame notes).chip ≡ with_redraw false (state_after 192 c vram slices))
     × ((state_after 192 c vram slices).status ≡ status_through c.status (full_draw_notes c vram map frame notes))
@@ -45,8 +45,8 @@ full-draw-is-line-draws c ok vram full map frame notes m f n slices wide =
     let r = c.registers in
     let accepted = full-accepted c vram map frame notes ok full m f n in
     let state : state_after 192 c vram slices ≡ noted 192 c vram = state-after vram full slices wide c ok 192 (omega arith) in (
-      accepted,
-      each-accepted vram full slices wide c ok,
+      the-value accepted 0,
+      λ l h. the-value (each-accepted vram full slices wide c ok l h) 0,
       the-new accepted (frame_of r vram) frame
           ∙ sym (end_same 192 (drawn_line c vram slices) (colours r vram) (each-drawn vram full slices wide c ok)),
       the-new accepted (drawn_state c (notes_of r vram)) c ∙ sym (ap (with_redraw false) state),

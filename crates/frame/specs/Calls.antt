@@ -1,10 +1,9 @@
 -- The calls: full draw and refresh, accepted or refused.
 use Rattle.std.specs.Prelude.{ℕ, Bool, List, [], ◌∷◌}
 use Rattle.chip.specs.Map.{map_size}
-use Rattle.chip.specs.Refusals.{Test, vram_test, slice_test, state_test, refusal_of, if_accepted, answered}
+use Rattle.chip.specs.Refusals.{Outcome, Test, vram_test, slice_test, state_test, refusal_of, if_accepted, answered}
 use Rattle.chip.specs.declared.state.Chip.{Chip}
 use Rattle.chip.specs.declared.refusal.Answer.{Answer}
-use Rattle.chip.specs.declared.refusal.Refusal.{Refusal}
 use Rattle.frame.specs.Lines.{frame_size, notes_size}
 use Rattle.frame.specs.Draw.{frame_of, notes_of, clear_map, drawn_state}
 use Rattle.frame.specs.Due.{new_frame, new_notes, due_count}
@@ -14,7 +13,8 @@ abbrev pub draw_tests : Chip → List ℕ → List ℕ → List ℕ → List ℕ
 draw_tests c vram map frame notes =
     vram_test vram ∷ slice_test map_size map ∷ slice_test frame_size frame ∷ slice_test notes_size notes ∷ state_test c ∷ []
 
-abbrev pub draw_refusal : Chip → List ℕ → List ℕ → List ℕ → List ℕ → Refusal
+-- How they end: all passed, or a refusal.
+abbrev pub draw_refusal : Chip → List ℕ → List ℕ → List ℕ → List ℕ → Outcome
 draw_refusal c vram map frame notes = refusal_of (draw_tests c vram map frame notes)
 
 abbrev pub full_draw : Chip → List ℕ → List ℕ → List ℕ → List ℕ → Answer

@@ -4,28 +4,28 @@ ghost use Rattle.frame.specs.Calls as calls;
 
 use crate::lines::redraw_lines;
 use crate::status::status_through;
-use chip::{Answer, Chip, Refusal, fill};
+use chip::{Answer, Chip, Refusal, Screen};
 
 // The tests that both calls make.
-fn tested(chip: Chip, vram: &[u8], map: &[u8], frame: &[u8], notes: &[u8]) -> Refusal
+fn tested(chip: Chip, vram: &[u8], map: &[u8], frame: &[u8], notes: &[u8]) -> Result<(), Refusal>
     ensures { result ≡ calls.draw_refusal chip vram.now map.now frame.now notes.now }
 {
     if vram.len() != 16384 {
-        return Refusal::VramLength;
+        return Err(Refusal::VramLength);
     }
     if map.len() != 2048 {
-        return Refusal::SliceLength;
+        return Err(Refusal::SliceLength);
     }
     if frame.len() != 49152 {
-        return Refusal::SliceLength;
+        return Err(Refusal::SliceLength);
     }
     if notes.len() != 192 {
-        return Refusal::SliceLength;
+        return Err(Refusal::SliceLength);
     }
     if !chip.is_well_formed() {
-        return Refusal::IllFormed;
+        return Err(Refusal::IllFormed);
     }
-    Refusal::Accepted
+    Ok(())
 }
 
 // What both calls do: the tests; then what is due with this redraw mark is redrawn, status is updated by all notes, and map and
@@ -43,16 +43,15 @@ fn draw_due(
     ensures frame_after { frame.new ≡ calls.draw_due_frame redraw chip vram.now map.old frame.old notes.old }
     ensures notes_after { notes.new ≡ calls.draw_due_notes redraw chip vram.now map.old frame.old notes.old }
 {
-    let refusal = tested(chip, vram, map, frame, notes);
-    if refusal.number() != 0 {
+    if let Err(refusal) = tested(chip, vram, map, frame, notes) {
         return chip.refused(refusal);
     }
-    let registers = chip.registers;
-    let redrawn = redraw_lines(redraw, registers, vram, map, frame, notes);
+    let screen = Screen::new(chip.registers, vram);
+    let redrawn = redraw_lines(redraw, screen, map, frame, notes);
     let mut next = chip;
     next.status = status_through(chip.status, notes);
     next.redraw = false;
-    fill(map, 0);
+    map.fill(0);
     next.accepted(redrawn)
 }
 
@@ -70,9 +69,11 @@ pub fn full_draw(
     ensures frame_after { frame.new ≡ calls.full_draw_frame chip vram.now map.old frame.old notes.old }
     ensures notes_after { notes.new ≡ calls.full_draw_notes chip vram.now map.old frame.old notes.old }
 {
-    let mut answer = draw_due(chip, true, vram, map, frame, notes);
-    answer.value = 0;
-    answer
+    let answer = draw_due(chip, true, vram, map, frame, notes);
+    Answer {
+        result: answer.result.and(Ok(0)),
+        ..answer
+    }
 }
 
 // Redraws the lines that are due, and answers how many.

@@ -13,10 +13,8 @@ fn joined(notes: &[u8]) -> u8
     ensures { Joined notes.now result }
 {
     let mut joined: u8 = 0;
-    let mut i = 0;
-    while i < notes.len() {
-        joined |= notes[i] ^ 32;
-        i += 1;
+    for note in notes {
+        joined |= *note ^ 32;
     }
     joined
 }
@@ -25,15 +23,11 @@ fn joined(notes: &[u8]) -> u8
 fn first_fifth(notes: &[u8]) -> u8
     ensures { result ≡ first_fifth notes.now }
 {
-    let mut l = 0;
-    while l < notes.len() {
-        let n = notes[l] % 64;
-        if n < 32 {
-            return n;
-        }
-        l += 1;
-    }
-    32
+    notes
+        .iter()
+        .map(|note| *note % 64)
+        .find(|n| *n < 32)
+        .unwrap_or(32)
 }
 
 // Where 5S (hex 40) or F (80) is on, no fifth sprite counts, and none is looked for.

@@ -1,12 +1,27 @@
 // The bytes that come in on standard input.
 #![tactic(auto)]
 
-ghost use Rattle.std.specs.Prelude.{◌≤◌, length};
+ghost use Rattle.std.specs.Prelude.{◌≡◌, ◌≤◌, ◌⊎◌, length};
 ghost use Rattle.input.specs.Came.{buffer_size, long_buffer_size, Came};
 
 use std::io::Read;
 
-// Fills the buffer from its front on, until it is full, the input ends or a read fails.
+// A buffer with room for one byte more than a snapshot has, so that a longer file is seen: it fills the buffer.
+pub fn buffer() -> [u8; 16407]
+    ensures { length result ≡ buffer_size }
+{
+    [0; 16407]
+}
+
+// The same for a snapshot with a log behind it.
+pub fn long_buffer() -> [u8; 56411]
+    ensures { length result ≡ long_buffer_size }
+{
+    [0; 56411]
+}
+
+// Fills the buffer from its front on, until it is full, the input ends or a read fails. It takes a slice, since a part of an
+// array of any length N cannot be lent; and each read brings another count, so that no `for` fits.
 fn read_full<R: Read>(reader: &mut R, buffer: &mut [u8]) -> usize
     ensures { result ≤ length buffer.new }
 {
@@ -21,16 +36,11 @@ fn read_full<R: Read>(reader: &mut R, buffer: &mut [u8]) -> usize
     done
 }
 
-// Reads into the buffer, from its front on, until it is full, the input ends or a read fails. Answers how many bytes came.
-pub fn read<R: Read>(reader: &mut R, buffer: &mut [u8; 16407]) -> usize
-    ensures { Came buffer_size result buffer.new }
+// Reads into a buffer of one of the two lengths, from its front on, until it is full, the input ends or a read fails. Answers how
+// many bytes came.
+pub fn read<R: Read, const N: usize>(reader: &mut R, buffer: &mut [u8; N]) -> usize
+    requires { (N ≡ buffer_size) ⊎ (N ≡ long_buffer_size) }
+    ensures { Came N result buffer.new }
 {
     read_full(reader, buffer)
-}
-
-// The same for a snapshot with a log behind it.
-pub fn read_with_log<R: Read>(reader: &mut R, longer: &mut [u8; 56411]) -> usize
-    ensures { Came long_buffer_size result longer.new }
-{
-    read_full(reader, longer)
 }

@@ -10,11 +10,12 @@ use mathlib.Core.List.{List, [], ◌∷◌, ◌++◌}
 use lib.Dec.{eqb, leb}
 use lib.ListN.{length, length-replicate}
 use borrow.Author.Tests.{eq-eqb}
+use Rattle.std.specs.Prelude.{Ok}
 use Rattle.chip.specs.Ports.{cleared_vram}
-use Rattle.chip.specs.Refusals.{number_of, is_accepted, if_accepted, Test, vram_test, state_test, refusal_of}
+use Rattle.chip.specs.Refusals.{Outcome, number_of, is_accepted, if_accepted, Test, vram_test, state_test, refusal_of}
 use Rattle.chip.specs.State.{power_up_state, well_formed}
 use Rattle.chip.specs.declared.refusal.Refusal.{Refusal}
-use Rattle.chip.specs.declared.refusal.Refusal.TheVariants.{Accepted, SnapshotLength, Trailer, Checksum, IllFormed, LineNumber, ColumnNumber}
+use Rattle.chip.specs.declared.refusal.Refusal.TheVariants.{SnapshotLength, Trailer, Checksum, IllFormed, LineNumber, ColumnNumber}
 use Rattle.chip.specs.declared.state.Chip.{Chip}
 use Rattle.chip.proofs.Laws.Refusals.{differ, passed, is-accepted, the-new}
 use Rattle.point.specs.Calls.{point_own_tests, point_refusal}
@@ -53,7 +54,7 @@ module _ (argc : ℕ) (first second file : List ℕ) (right : rightly_called arg
   x = number_in second
 
   -- the first refusal of all tests
-  abbrev pub given : Refusal
+  abbrev pub given : Outcome
   given = refusal_of (file_tests file ++ point_own_tests l x)
 
   -- reading makes the tests of the file: VRAM has its length
@@ -61,11 +62,11 @@ module _ (argc : ℕ) (first second file : List ℕ) (right : rightly_called arg
   of-reading = passed (vram_test cleared_vram) (file_tests file) (eq-eqb (length cleared_vram) 16384 (length-replicate {A = ℕ} 16384 0))
 
   -- the line of a refusal, or those of the colour and its origin
-  abbrev pub shown : Refusal → List ℕ
+  abbrev pub shown : Outcome → List ℕ
   shown r = if_accepted r (shown_text (held_state file).registers (vram_bytes file) l x) (refused_text (number_of r))
 
   -- where no test of the file fails, those of the numbers are left, in the point's call too
-  module _ (ok : read_refusal cleared_vram file ≡ Accepted) where
+  module _ (ok : read_refusal cleared_vram file ≡ Ok tt) where
     abbrev readable : Readable cleared_vram file
     readable = accepted-readable cleared_vram file ok
 

@@ -27,7 +27,7 @@ fn main(rt: HostRuntime) {
     let first_count = rt.arg(1, &mut first).unwrap_or(0);
     let mut second = [0u8; 131072];
     let second_count = rt.arg(2, &mut second).unwrap_or(0);
-    let mut file = [0u8; 16407];
+    let mut file = input::buffer();
     let mut count = 0;
     if rightly_called(argc, &first[..first_count], &second[..second_count]) {
         count = input::read(&mut rt.stdin(), &mut file);

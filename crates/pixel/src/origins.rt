@@ -1,10 +1,12 @@
 // Where a colour comes from. Each function puts its text into a slice from a place on, and answers the place behind it.
+#![tactic(auto, using(crate::proofs::Laws::Origins::texts), unfolding(crate::specs::Origins::sprite_text, crate::specs::Origins::tables_text, crate::specs::Origins::plane_text, crate::specs::Origins::source_text, crate::specs::Origins::origin_text))]
+
 ghost use Rattle.std.specs.Prelude.{◌≡◌, true, ◌+◌, ◌≤◌, ◌<◌, length};
 ghost use Rattle.chip.specs.Lists.{put_at};
 ghost use Rattle.chip.specs.State.{masked};
 ghost use Rattle.pixel.specs.Origins.{labelled, sprite_text, pattern_then_colours, tables_text, plane_text, source_text, origin_text};
 
-use chip::{Mode, put};
+use chip::{Mode, Screen, put};
 use planes::{CellAddresses, addresses_at};
 use sprites::attribute_address;
 use text::put_long_decimal;
@@ -25,10 +27,8 @@ fn put_sprite(out: &mut [u8], at: usize, r: [u8; 8], n: usize) -> usize
     ensures out_after { out.new ≡ put_at at (sprite_text r n) out.old }
 {
     let address = attribute_address(r, n, 0);
-    let sprite = *b"sprite ";
-    let behind = put_labelled(out, at, &sprite, n);
-    let attributes = *b", attributes at ";
-    put_labelled(out, behind, &attributes, address)
+    let behind = put_labelled(out, at, b"sprite ", n);
+    put_labelled(out, behind, b", attributes at ", address)
 }
 
 fn put_pattern_then_colours(out: &mut [u8], at: usize, a: CellAddresses) -> usize
@@ -36,10 +36,8 @@ fn put_pattern_then_colours(out: &mut [u8], at: usize, a: CellAddresses) -> usiz
     ensures value { result ≡ at + length (pattern_then_colours a) }
     ensures out_after { out.new ≡ put_at at (pattern_then_colours a) out.old }
 {
-    let pattern = *b", pattern at ";
-    let behind = put_labelled(out, at, &pattern, a.pattern);
-    let colours = *b", colours at ";
-    put_labelled(out, behind, &colours, a.colours)
+    let behind = put_labelled(out, at, b", pattern at ", a.pattern);
+    put_labelled(out, behind, b", colours at ", a.colours)
 }
 
 // What a cell has behind its name, by the mode.
@@ -50,80 +48,47 @@ fn put_tables(out: &mut [u8], at: usize, mode: Mode, a: CellAddresses) -> usize
 {
     match mode {
         Mode::Blank => at,
-        Mode::GraphicsI => put_pattern_then_colours(out, at, a),
-        Mode::GraphicsII => put_pattern_then_colours(out, at, a),
-        Mode::Multicolor => {
-            let byte = *b", colours at ";
-            put_labelled(out, at, &byte, a.pattern)
-        }
+        Mode::GraphicsI | Mode::GraphicsII => put_pattern_then_colours(out, at, a),
+        Mode::Multicolor => put_labelled(out, at, b", colours at ", a.pattern),
         Mode::Text => {
-            let pattern = *b", pattern at ";
-            let end = put_labelled(out, at, &pattern, a.pattern);
-            let colours = *b", colours in register 7";
-            put(out, end, &colours)
+            let end = put_labelled(out, at, b", pattern at ", a.pattern);
+            put(out, end, b", colours in register 7")
         }
     }
 }
 
 // The cell of line l that holds column x.
-fn put_plane(out: &mut [u8], at: usize, r: [u8; 8], vram: &[u8], l: usize, x: usize) -> usize
-    requires { (masked r ≡ true) × (length vram.now ≡ 16384) × (l < 192) × (at + 80 ≤ length out.old) }
-    ensures value { result ≡ at + length (plane_text r vram.now l x) }
-    ensures out_after { out.new ≡ put_at at (plane_text r vram.now l x) out.old }
+fn put_plane(out: &mut [u8], at: usize, screen: Screen, l: usize, x: usize) -> usize
+    requires { (l < 192) × (at + 80 ≤ length out.old) }
+    ensures value { result ≡ at + length (plane_text screen.entry.registers screen.entry.vram.now l x) }
+    ensures out_after { out.new ≡ put_at at (plane_text screen.entry.registers screen.entry.vram.now l x) out.old }
 {
-    let mode = chip::mode_of(r);
-    let a = addresses_at(mode, r, vram, l, x);
-    let name = *b"pattern plane, name at ";
-    let behind = put_labelled(out, at, &name, a.name);
+    let mode = chip::mode_of(screen.registers);
+    let a = addresses_at(mode, screen, l, x);
+    let behind = put_labelled(out, at, b"pattern plane, name at ", a.name);
     put_tables(out, behind, mode, a)
 }
 
 // The origin by its code.
-fn put_source(
-    out: &mut [u8],
-    at: usize,
-    r: [u8; 8],
-    vram: &[u8],
-    l: usize,
-    x: usize,
-    code: u8,
-) -> usize
-    requires { (masked r ≡ true) × (length vram.now ≡ 16384) × (l < 192) × (at + 80 ≤ length out.old) }
-    ensures value { result ≡ at + length (source_text r vram.now l x code) }
-    ensures out_after { out.new ≡ put_at at (source_text r vram.now l x code) out.old }
+fn put_source(out: &mut [u8], at: usize, screen: Screen, l: usize, x: usize, code: u8) -> usize
+    requires { (l < 192) × (at + 80 ≤ length out.old) }
+    ensures value { result ≡ at + length (source_text screen.entry.registers screen.entry.vram.now l x code) }
+    ensures out_after { out.new ≡ put_at at (source_text screen.entry.registers screen.entry.vram.now l x code) out.old }
 {
-    if code < 32 {
-        return put_sprite(out, at, r, code as usize);
+    match code {
+        0..32 => put_sprite(out, at, screen.registers, code as usize),
+        32 => put_plane(out, at, screen, l, x),
+        33 => put(out, at, b"backdrop, register 7"),
+        34 => put(out, at, b"black by default"),
+        _ => put(out, at, b"external video"),
     }
-    if code == 32 {
-        return put_plane(out, at, r, vram, l, x);
-    }
-    if code == 33 {
-        let backdrop = *b"backdrop, register 7";
-        return put(out, at, &backdrop);
-    }
-    if code == 34 {
-        let black = *b"black by default";
-        return put(out, at, &black);
-    }
-    let external = *b"external video";
-    put(out, at, &external)
 }
 
-pub fn put_origin(
-    out: &mut [u8],
-    at: usize,
-    r: [u8; 8],
-    vram: &[u8],
-    l: usize,
-    x: usize,
-    code: u8,
-) -> usize
-    requires { (masked r ≡ true) × (length vram.now ≡ 16384) × (l < 192) × (at + 80 ≤ length out.old) }
-    ensures value { result ≡ at + length (origin_text r vram.now l x code) }
-    ensures out_after { out.new ≡ put_at at (origin_text r vram.now l x code) out.old }
+pub fn put_origin(out: &mut [u8], at: usize, screen: Screen, l: usize, x: usize, code: u8) -> usize
+    requires { (l < 192) × (at + 80 ≤ length out.old) }
+    ensures value { result ≡ at + length (origin_text screen.entry.registers screen.entry.vram.now l x code) }
+    ensures out_after { out.new ≡ put_at at (origin_text screen.entry.registers screen.entry.vram.now l x code) out.old }
 {
-    let end = put_source(out, at, r, vram, l, x, code);
-    let newline = [b'\n'];
-    put(out, end, &newline)
+    let end = put_source(out, at, screen, l, x, code);
+    put(out, end, b"\n")
 }

@@ -1,5 +1,5 @@
 -- What a line of the pattern plane reads, by the mode's table. Quotients are whole.
-use Rattle.std.specs.Prelude.{ℕ, ◌+◌, ◌*◌, ◌/◌, ◌%◌, Bool, true, false, List}
+use Rattle.std.specs.Prelude.{ℕ, ◌+◌, ◌*◌, ◌/◌, ◌%◌, List}
 use Rattle.chip.specs.State.{register}
 use Rattle.chip.specs.Tables.{names, patterns, colours, base}
 use Rattle.chip.specs.declared.mode.Mode.{Mode}
@@ -21,14 +21,6 @@ cell_width GraphicsI = 8
 cell_width GraphicsII = 8
 cell_width Multicolor = 8
 cell_width Text = 6
-
--- Whether a mode is Multicolor, in which all cells have one pattern.
-abbrev pub is_multicolor : Mode → Bool
-is_multicolor Blank = false
-is_multicolor GraphicsI = false
-is_multicolor GraphicsII = false
-is_multicolor Multicolor = true
-is_multicolor Text = false
 
 -- The first column with a pattern.
 abbrev pub margin : Mode → ℕ

@@ -5,20 +5,20 @@ ghost use Rattle.planes.specs.Cells.{cells_in, name_address, pattern_address, co
 
 use chip::Mode;
 
-// How many cells a line has.
+// How many cells a line has. (A mode's three numbers, with `cell_width` and `margin_of`, stay three functions, as they are three
+// definitions: a struct of them would only be taken apart where it is made.)
 pub fn cells_in(mode: Mode) -> usize
     ensures { result ≡ cells_in mode }
 {
     match mode {
         Mode::Blank => 0,
-        Mode::GraphicsI => 32,
-        Mode::GraphicsII => 32,
-        Mode::Multicolor => 32,
+        Mode::GraphicsI | Mode::GraphicsII | Mode::Multicolor => 32,
         Mode::Text => 40,
     }
 }
 
 // The name of cell i of line l.
+#[tactic(auto, unfolding(crate::specs::Cells::name_address))]
 pub fn name_address(mode: Mode, r: [u8; 8], l: usize, i: usize) -> usize
     requires { (masked r ≡ true) × (l < 192) × (i < cells_in mode) }
     ensures { result ≡ name_address mode r l i }
@@ -27,6 +27,7 @@ pub fn name_address(mode: Mode, r: [u8; 8], l: usize, i: usize) -> usize
 }
 
 // The pattern byte of a name on line l.
+#[tactic(auto, unfolding(crate::specs::Cells::pattern_address))]
 pub fn pattern_address(mode: Mode, r: [u8; 8], l: usize, name: u8) -> usize
     requires { (masked r ≡ true) × (l < 192) }
     ensures { result ≡ pattern_address mode r l name }
@@ -35,14 +36,14 @@ pub fn pattern_address(mode: Mode, r: [u8; 8], l: usize, name: u8) -> usize
     let b = r[4] as usize;
     match mode {
         Mode::Blank => 0,
-        Mode::GraphicsI => b * 2048 + (8 * n + l % 8),
+        Mode::GraphicsI | Mode::Text => b * 2048 + (8 * n + l % 8),
         Mode::GraphicsII => b / 4 * 8192 + (l / 64 * 2048 + 8 * n + l % 8),
         Mode::Multicolor => b * 2048 + (8 * n + l / 4 % 8),
-        Mode::Text => b * 2048 + (8 * n + l % 8),
     }
 }
 
 // The colours of a name on line l, in the modes that have a table of them.
+#[tactic(auto, unfolding(crate::specs::Cells::colour_address))]
 pub fn colour_address(mode: Mode, r: [u8; 8], l: usize, name: u8) -> usize
     requires { (masked r ≡ true) × (l < 192) }
     ensures { result ≡ colour_address mode r l name }
@@ -50,10 +51,8 @@ pub fn colour_address(mode: Mode, r: [u8; 8], l: usize, name: u8) -> usize
     let n = name as usize;
     let b = r[3] as usize;
     match mode {
-        Mode::Blank => 0,
         Mode::GraphicsI => b * 64 + n / 8,
         Mode::GraphicsII => b / 128 * 8192 + (l / 64 * 2048 + 8 * n + l % 8),
-        Mode::Multicolor => 0,
-        Mode::Text => 0,
+        Mode::Blank | Mode::Multicolor | Mode::Text => 0,
     }
 }

@@ -1,11 +1,10 @@
 // Where the bytes stand that give a column its pattern and colours.
-ghost use Rattle.std.specs.Prelude.{◌≡◌, true, ◌<◌, length};
-ghost use Rattle.chip.specs.State.{masked};
+ghost use Rattle.std.specs.Prelude.{◌≡◌, ◌<◌};
 ghost use Rattle.planes.specs.Addresses.{addresses_at};
 
 use crate::address::{colour_address, name_address, pattern_address};
 use crate::column::{in_cells, place_of};
-use chip::Mode;
+use chip::{Mode, Screen};
 
 #[derive(Clone, Copy)]
 pub struct CellAddresses {
@@ -15,9 +14,10 @@ pub struct CellAddresses {
 }
 
 // Those of the cell that holds column x of line l, and 0 where none does.
-pub fn addresses_at(mode: Mode, r: [u8; 8], vram: &[u8], l: usize, x: usize) -> CellAddresses
-    requires { (masked r ≡ true) × (length vram.now ≡ 16384) × (l < 192) }
-    ensures value { result ≡ addresses_at mode r l x vram.now }
+#[tactic(auto, using(crate::proofs::Laws::Cells::addresses, crate::proofs::Laws::Column::cell_one), unfolding(crate::specs::Addresses::addresses_at))]
+pub fn addresses_at(mode: Mode, screen: Screen, l: usize, x: usize) -> CellAddresses
+    requires { l < 192 }
+    ensures value { result ≡ addresses_at mode screen.entry.registers l x screen.entry.vram.now }
     ensures name_bound { (result.name < 16384) × (result.pattern < 16384) × (result.colours < 16384) }
 {
     if !in_cells(mode, x) {
@@ -28,13 +28,13 @@ pub fn addresses_at(mode: Mode, r: [u8; 8], vram: &[u8], l: usize, x: usize) -> 
         };
     }
     let place = place_of(mode, x);
-    let at = name_address(mode, r, l, place.cell);
-    let name = vram[at];
-    let pattern = pattern_address(mode, r, l, name);
-    let colours = colour_address(mode, r, l, name);
+    let at = name_address(mode, screen.registers, l, place.cell);
+    let name = screen.vram[at];
+    let pattern = pattern_address(mode, screen.registers, l, name);
+    let colours = colour_address(mode, screen.registers, l, name);
     CellAddresses {
         name: at,
-        pattern: pattern,
-        colours: colours,
+        pattern,
+        colours,
     }
 }

@@ -1,11 +1,10 @@
 // A cell of a line: its name, then its pattern and colours, each fetched once.
-ghost use Rattle.std.specs.Prelude.{◌≡◌, true, ◌<◌, length};
-ghost use Rattle.chip.specs.State.{masked};
+ghost use Rattle.std.specs.Prelude.{◌≡◌, ◌<◌};
 ghost use Rattle.fetches.specs.Fetch.{value};
 ghost use Rattle.planes.specs.Cells.{cells_in, pattern_and_colours, shape_of, cell_of};
 
 use crate::address::{colour_address, name_address, pattern_address};
-use chip::Mode;
+use chip::{Mode, Screen};
 
 // A pattern byte, and the colours of its 1 bits (high nibble) and 0 bits (low nibble).
 #[derive(Clone, Copy)]
@@ -14,52 +13,47 @@ pub struct Cell {
     pub colours: u8,
 }
 
-fn pattern_and_colours(mode: Mode, r: [u8; 8], vram: &[u8], l: usize, name: u8) -> Cell
-    requires { (masked r ≡ true) × (length vram.now ≡ 16384) × (l < 192) }
-    ensures { result ≡ value (pattern_and_colours mode r l name) vram.now }
+#[tactic(auto, using(crate::proofs::Laws::Cells::addresses), unfolding(fetches::specs::Fetch::value))]
+fn pattern_and_colours(mode: Mode, screen: Screen, l: usize, name: u8) -> Cell
+    requires { l < 192 }
+    ensures { result ≡ value (pattern_and_colours mode screen.entry.registers l name) screen.entry.vram.now }
 {
-    let pattern = vram[pattern_address(mode, r, l, name)];
-    let colours = vram[colour_address(mode, r, l, name)];
-    Cell {
-        pattern: pattern,
-        colours: colours,
-    }
+    let pattern = screen.vram[pattern_address(mode, screen.registers, l, name)];
+    let colours = screen.vram[colour_address(mode, screen.registers, l, name)];
+    Cell { pattern, colours }
 }
 
 // What is fetched for a name on line l.
-fn shape_of(mode: Mode, r: [u8; 8], vram: &[u8], l: usize, name: u8) -> Cell
-    requires { (masked r ≡ true) × (length vram.now ≡ 16384) × (l < 192) }
-    ensures { result ≡ value (shape_of mode r l name) vram.now }
+#[tactic(auto, using(crate::proofs::Laws::Cells::addresses), unfolding(fetches::specs::Fetch::value, crate::specs::Cells::shape_of))]
+fn shape_of(mode: Mode, screen: Screen, l: usize, name: u8) -> Cell
+    requires { l < 192 }
+    ensures { result ≡ value (shape_of mode screen.entry.registers l name) screen.entry.vram.now }
 {
     match mode {
         Mode::Blank => Cell {
             pattern: 0,
             colours: 0,
         },
-        Mode::GraphicsI => pattern_and_colours(mode, r, vram, l, name),
-        Mode::GraphicsII => pattern_and_colours(mode, r, vram, l, name),
-        Mode::Multicolor => {
-            let colours = vram[pattern_address(mode, r, l, name)];
-            Cell {
-                pattern: 0xF0,
-                colours: colours,
-            }
-        }
-        Mode::Text => {
-            let pattern = vram[pattern_address(mode, r, l, name)];
-            Cell {
-                pattern: pattern,
-                colours: r[7],
-            }
-        }
+        // Two arms: of one, tried, the compiler made a choice between the two modes' addresses in each cell.
+        Mode::GraphicsI => pattern_and_colours(mode, screen, l, name),
+        Mode::GraphicsII => pattern_and_colours(mode, screen, l, name),
+        Mode::Multicolor => Cell {
+            pattern: 0xF0,
+            colours: screen.vram[pattern_address(mode, screen.registers, l, name)],
+        },
+        Mode::Text => Cell {
+            pattern: screen.vram[pattern_address(mode, screen.registers, l, name)],
+            colours: screen.registers[7],
+        },
     }
 }
 
 // Cell i of line l.
-pub fn cell_of(mode: Mode, r: [u8; 8], vram: &[u8], l: usize, i: usize) -> Cell
-    requires { (masked r ≡ true) × (length vram.now ≡ 16384) × (l < 192) × (i < cells_in mode) }
-    ensures { result ≡ value (cell_of mode r l i) vram.now }
+#[tactic(auto, using(crate::proofs::Laws::Cells::addresses), unfolding(fetches::specs::Fetch::value, crate::specs::Cells::cell_of))]
+pub fn cell_of(mode: Mode, screen: Screen, l: usize, i: usize) -> Cell
+    requires { (l < 192) × (i < cells_in mode) }
+    ensures { result ≡ value (cell_of mode screen.entry.registers l i) screen.entry.vram.now }
 {
-    let name = vram[name_address(mode, r, l, i)];
-    shape_of(mode, r, vram, l, name)
+    let name = screen.vram[name_address(mode, screen.registers, l, i)];
+    shape_of(mode, screen, l, name)
 }

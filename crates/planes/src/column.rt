@@ -1,6 +1,5 @@
 // The pattern plane at one column. Of the line's cells it reads the one that holds the column, and no other.
-ghost use Rattle.std.specs.Prelude.{◌≡◌, true, [], ◌<◌, length};
-ghost use Rattle.chip.specs.State.{masked};
+ghost use Rattle.std.specs.Prelude.{◌≡◌, true, [], ◌<◌};
 ghost use Rattle.chip.specs.declared.mode.Mode.TheVariants.{Text};
 ghost use Rattle.fetches.specs.Fetch.{value};
 ghost use Rattle.planes.specs.Plane as plane;
@@ -11,7 +10,7 @@ use crate::cell::{Cell, cell_of};
 use crate::origin::{Origin, Pixel, in_front, pixel_behind};
 use crate::paint::choose;
 use crate::plane::{cell_width, margin_of};
-use chip::{Mode, bit};
+use chip::{Mode, Screen, bit};
 
 // Whether a cell holds column x.
 pub fn in_cells(mode: Mode, x: usize) -> bool
@@ -19,7 +18,7 @@ pub fn in_cells(mode: Mode, x: usize) -> bool
 {
     let first = margin_of(mode);
     let end = first + cells_in(mode) * cell_width(mode);
-    (first <= x) & (x < end)
+    (first..end).contains(&x)
 }
 
 // Which cell of a line, and which pixel of it, from the left.
@@ -37,19 +36,14 @@ fn text_place(x: usize) -> CellPixel
 {
     let mut cell = 0;
     let mut pixel = x - 8;
-    let mut cells = 64;
-    while 1 < cells {
-        cells /= 2;
+    for cells in [32, 16, 8, 4, 2, 1] {
         let columns = cells * 6;
         if columns <= pixel {
             pixel -= columns;
             cell += cells;
         }
     }
-    CellPixel {
-        cell: cell,
-        pixel: pixel,
-    }
+    CellPixel { cell, pixel }
 }
 
 // Where column x lies, which a cell holds. Cells of eight columns begin at column 0.
@@ -77,15 +71,15 @@ fn pick(cell: Cell, k: usize) -> u8
 }
 
 // The pixel at column x of line l, with the plane over what stands behind it.
-pub fn plane_at(mode: Mode, r: [u8; 8], vram: &[u8], l: usize, x: usize) -> Pixel
-    requires { (masked r ≡ true) × (length vram.now ≡ 16384) × (l < 192) }
-    ensures { result ≡ settle r [] (plane.cell_colour mode (value (plane.cell_holding mode r l x) vram.now) x) }
+pub fn plane_at(mode: Mode, screen: Screen, l: usize, x: usize) -> Pixel
+    requires { l < 192 }
+    ensures { result ≡ settle screen.entry.registers [] (plane.cell_colour mode (value (plane.cell_holding mode screen.entry.registers l x) screen.entry.vram.now) x) }
 {
-    let behind = pixel_behind(r);
+    let behind = pixel_behind(screen.registers);
     if !in_cells(mode, x) {
         return behind;
     }
     let place = place_of(mode, x);
-    let cell = cell_of(mode, r, vram, l, place.cell);
+    let cell = cell_of(mode, screen, l, place.cell);
     in_front(pick(cell, place.pixel), Origin::Pattern, behind)
 }

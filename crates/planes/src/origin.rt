@@ -17,6 +17,7 @@ pub enum Origin {
 }
 
 impl Origin {
+    // A method and no `From`: `origin.code()` says which number it is.
     pub fn code(self) -> u8
         ensures { result ≡ origins.origin_code self }
     {
@@ -43,10 +44,7 @@ pub fn in_front(colour: u8, origin: Origin, behind: Pixel) -> Pixel
     if colour == 0 {
         return behind;
     }
-    Pixel {
-        colour: colour,
-        origin: origin,
-    }
+    Pixel { colour, origin }
 }
 
 // Behind a backdrop of colour 0.

@@ -12,31 +12,14 @@ pub fn choose(set: bool, one: u8, zero: u8) -> u8
     if set { one } else { zero }
 }
 
-// The first width bits of a pattern, from the left: 1 bits as one byte, 0 bits as the other.
-fn paint_cell(line: &mut [u8], at: usize, width: usize, pattern: u8, one: u8, zero: u8)
-    requires { (at + width ≤ length line.old) × (width ≤ 8) }
-    ensures { Painted line.new line.old at width (λ k. cond (bits.bit (7 - k) pattern) one zero) }
+// The first WIDTH bits of a pattern, from the left: 1 bits as one byte, 0 bits as the other. With the count known no loop is left.
+fn paint_cell<const WIDTH: usize>(line: &mut [u8], at: usize, pattern: u8, one: u8, zero: u8)
+    requires { (at + WIDTH ≤ length line.old) × (WIDTH ≤ 8) }
+    ensures { Painted line.new line.old at WIDTH (λ k. cond (bits.bit (7 - k) pattern) one zero) }
 {
-    let mut k = 0;
-    while k < width {
+    for k in 0..WIDTH {
         line[at + k] = choose(bit(pattern, (7 - k) as u8), one, zero);
-        k += 1;
     }
-}
-
-// A cell of eight pixels, and one of six: with the count known no loop is left.
-fn paint_eight(line: &mut [u8], at: usize, pattern: u8, one: u8, zero: u8)
-    requires { at + 8 ≤ length line.old }
-    ensures { Painted line.new line.old at 8 (λ k. cond (bits.bit (7 - k) pattern) one zero) }
-{
-    paint_cell(line, at, 8, pattern, one, zero)
-}
-
-fn paint_six(line: &mut [u8], at: usize, pattern: u8, one: u8, zero: u8)
-    requires { at + 6 ≤ length line.old }
-    ensures { Painted line.new line.old at 6 (λ k. cond (bits.bit (7 - k) pattern) one zero) }
-{
-    paint_cell(line, at, 6, pattern, one, zero)
 }
 
 // A cell of either width.
@@ -45,8 +28,8 @@ pub fn paint_pattern(line: &mut [u8], at: usize, width: usize, pattern: u8, one:
     ensures { Painted line.new line.old at width (λ k. cond (bits.bit (7 - k) pattern) one zero) }
 {
     if width == 8 {
-        paint_eight(line, at, pattern, one, zero);
+        paint_cell::<8>(line, at, pattern, one, zero);
     } else {
-        paint_six(line, at, pattern, one, zero);
+        paint_cell::<6>(line, at, pattern, one, zero);
     }
 }

@@ -15,6 +15,5 @@ pub fn over(front: u8, behind: u8) -> u8
 pub fn behind_planes(registers: [u8; 8]) -> u8
     ensures { result ≡ pixel.behind_planes registers }
 {
-    let behind = pixel_behind(registers);
-    behind.colour
+    pixel_behind(registers).colour
 }

@@ -24,7 +24,7 @@ use Rattle.scanline.proofs.Laws.Line.{fetched-line}
 use Rattle.planes.specs.Origin.{origin_code}
 use Rattle.planes.specs.declared.origin.Pixel.{Pixel}
 use Rattle.point.specs.Point.{Spot, point_of, colour_of, spot_pixel}
-use Rattle.point.specs.Calls.{point_colour, point_pixel, point_own_tests, point_answered, point}
+use Rattle.point.specs.Calls.{point_colour, point_pixel, point_own_tests, point_given, point}
 use Rattle.point.proofs.Laws.Point.{fetched-point}
 
 -- Two VRAMs that agree at the fetches which the point makes at the first: it has the same colour, the same origin
@@ -44,7 +44,7 @@ same_answer c l x one other same h =
     let long : eqb (length other) vram_size ≡ eqb (length one) vram_size = ap (λ (n : ℕ). eqb n vram_size) same in
     let alike = same-pixel-and-fetches c.registers l x one other h in
     let code = ap (λ (p : Pixel). origin_code p.origin) alike.1 in
-    λ i. point_answered c (refusal_of (record { refusal = VramLength; passes = long i } ∷ state_test c ∷ point_own_tests l x)) (alike.0 i) (code i)
+    λ i. record { chip = c; result = point_given (refusal_of (record { refusal = VramLength; passes = long i } ∷ state_test c ∷ point_own_tests l x)) (alike.0 i) (code i) }
 
 -- Every byte that a point fetches is one that its line fetches: so it lies within VRAM, as those do.
 pub among-the-line : (r : List ℕ) (l x : ℕ) (vram : List ℕ) → Among (fetched (point_of r l x) vram) (fetched (line_of r l) vram)

@@ -1,6 +1,6 @@
 -- The call that answers the colour of one point, and where it comes from.
-use Rattle.std.specs.Prelude.{ℕ, List, [], ◌∷◌}
-use Rattle.chip.specs.Refusals.{Test, vram_test, state_test, line_test, column_test, refusal_of, if_accepted}
+use Rattle.std.specs.Prelude.{ℕ, List, [], ◌∷◌, Result, Ok, Err}
+use Rattle.chip.specs.Refusals.{Outcome, Test, vram_test, state_test, line_test, column_test, refusal_of, giving}
 use Rattle.chip.specs.declared.state.Chip.{Chip}
 use Rattle.chip.specs.declared.refusal.Answer.{Answer}
 use Rattle.chip.specs.declared.refusal.Refusal.{Refusal}
@@ -8,6 +8,7 @@ use Rattle.fetches.specs.Fetch.{value}
 use Rattle.planes.specs.Origin.{origin_code}
 use Rattle.planes.specs.declared.origin.Pixel.{Pixel}
 use Rattle.point.specs.Point.{point_of, colour_of, spot_pixel}
+use Rattle.point.specs.declared.numbers.Point.{Point}
 use Rattle.point.specs.declared.call.PointAnswer.{PointAnswer}
 
 -- The colour at line l and column x, from registers and VRAM.
@@ -28,19 +29,28 @@ point_own_tests l x = line_test l ∷ column_test x ∷ []
 abbrev pub point_tests : Chip → List ℕ → ℕ → ℕ → List Test
 point_tests c vram l x = vram_test vram ∷ state_test c ∷ point_own_tests l x
 
-abbrev pub point_refusal : Chip → List ℕ → ℕ → ℕ → Refusal
+-- How they end: all passed, or a refusal.
+abbrev pub point_refusal : Chip → List ℕ → ℕ → ℕ → Outcome
 point_refusal c vram l x = refusal_of (point_tests c vram l x)
 
--- What a point answers: the state as it was, status with it, the refusal, and two numbers, which are 0 where it is refused.
-abbrev pub point_answered : Chip → Refusal → ℕ → ℕ → PointAnswer
-point_answered c r colour origin = record { chip = c; refusal = r; colour = if_accepted r colour 0; origin = if_accepted r origin 0 }
+-- What is answered: two numbers, the colour and the code of its origin, or the refusal.
+abbrev pub point_given : Outcome → ℕ → ℕ → Result Point Refusal
+point_given r colour origin = giving r (record { colour = colour; origin = origin })
 
+abbrev pub point_at : Chip → List ℕ → ℕ → ℕ → Result Point Refusal
+point_at c vram l x = point_given (point_refusal c vram l x) (point_colour c.registers vram l x) (point_origin c.registers vram l x)
+
+-- The state stays as it was, status with it.
 abbrev pub point : Chip → List ℕ → ℕ → ℕ → PointAnswer
-point c vram l x = point_answered c (point_refusal c vram l x) (point_colour c.registers vram l x) (point_origin c.registers vram l x)
+point c vram l x = record { chip = c; result = point_at c vram l x }
 
 -- The same with one of the two numbers, as other calls answer.
+abbrev pub number_by : (Point → ℕ) → Result Point Refusal → Result ℕ Refusal
+number_by number (Ok p) = Ok (number p)
+number_by number (Err r) = Err r
+
 abbrev pub colour_answer : PointAnswer → Answer
-colour_answer a = record { chip = a.chip; refusal = a.refusal; value = a.colour }
+colour_answer a = record { chip = a.chip; result = number_by (λ p. p.colour) a.result }
 
 abbrev pub origin_answer : PointAnswer → Answer
-origin_answer a = record { chip = a.chip; refusal = a.refusal; value = a.origin }
+origin_answer a = record { chip = a.chip; result = number_by (λ p. p.origin) a.result }

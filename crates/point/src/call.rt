@@ -2,80 +2,66 @@
 ghost use Rattle.std.specs.Prelude.{◌≡◌};
 ghost use Rattle.point.specs.Calls as calls;
 
+use crate::numbers::Point;
 use crate::pixel::point_pixel;
-use chip::{Answer, Chip, Refusal};
+use chip::{Answer, Chip, Refusal, Screen};
 
-// The state as given, why the call was refused if it was, the colour, and the code of its origin.
+// The state as given, and the point, or why the call was refused.
 #[derive(Clone, Copy)]
 pub struct PointAnswer {
     pub chip: Chip,
-    pub refusal: Refusal,
-    pub colour: u8,
-    pub origin: u8,
+    pub result: Result<Point, Refusal>,
 }
 
 impl PointAnswer {
-    // The answer with the colour as its number, and that with the origin.
+    // The answer with the colour as its number, and that with the origin. (Two methods: from C each is a call of its own.)
     pub fn colour_answer(self) -> Answer
         ensures { result ≡ calls.colour_answer self }
     {
-        let chip = self.chip;
-        let refusal = self.refusal;
         Answer {
-            chip: chip,
-            refusal: refusal,
-            value: self.colour,
+            chip: self.chip,
+            result: self.result.map(|point| point.colour),
         }
     }
 
     pub fn origin_answer(self) -> Answer
         ensures { result ≡ calls.origin_answer self }
     {
-        let chip = self.chip;
-        let refusal = self.refusal;
         Answer {
-            chip: chip,
-            refusal: refusal,
-            value: self.origin,
+            chip: self.chip,
+            result: self.result.map(|point| point.origin),
         }
     }
 }
 
-fn refused(chip: Chip, refusal: Refusal) -> PointAnswer
-    ensures { result ≡ record { chip = chip; refusal = refusal; colour = 0; origin = 0 } }
+// The colour that the drawn line has at this column, and its origin; or why that is refused.
+fn point_at(chip: Chip, vram: &[u8], line: u32, column: u32) -> Result<Point, Refusal>
+    ensures { result ≡ calls.point_at chip vram.now line column }
 {
-    PointAnswer {
-        chip: chip,
-        refusal: refusal,
-        colour: 0,
-        origin: 0,
+    if vram.len() != 16384 {
+        return Err(Refusal::VramLength);
     }
+    if !chip.is_well_formed() {
+        return Err(Refusal::IllFormed);
+    }
+    if 191 < line {
+        return Err(Refusal::LineNumber);
+    }
+    if 255 < column {
+        return Err(Refusal::ColumnNumber);
+    }
+    let screen = Screen::new(chip.registers, vram);
+    let pixel = point_pixel(screen, line as u8, column as u8);
+    Ok(Point {
+        colour: pixel.colour,
+        origin: pixel.origin.code(),
+    })
 }
 
-// Answers the colour that the drawn line has at this column, and its origin. Nothing is drawn, and the state stays.
+// Answers that of a point. Nothing is drawn, and the state stays.
 pub fn point(chip: Chip, vram: &[u8], line: u32, column: u32) -> PointAnswer
     ensures { result ≡ calls.point chip vram.now line column }
 {
-    if vram.len() != 16384 {
-        return refused(chip, Refusal::VramLength);
-    }
-    if !chip.is_well_formed() {
-        return refused(chip, Refusal::IllFormed);
-    }
-    if 191 < line {
-        return refused(chip, Refusal::LineNumber);
-    }
-    if 255 < column {
-        return refused(chip, Refusal::ColumnNumber);
-    }
-    let registers = chip.registers;
-    let pixel = point_pixel(registers, vram, line as u8, column as u8);
-    let origin = pixel.origin;
-    let code = origin.code();
-    PointAnswer {
-        chip: chip,
-        refusal: Refusal::Accepted,
-        colour: pixel.colour,
-        origin: code,
-    }
+    let result = point_at(chip, vram, line, column);
+    PointAnswer { chip, result }
 }

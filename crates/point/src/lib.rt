@@ -2,6 +2,8 @@
 #![tactic(auto)]
 
 mod call;
+mod numbers;
 mod pixel;
 
 pub use call::{PointAnswer, point};
+pub use numbers::Point;

@@ -8,6 +8,7 @@ use crate::records::all_allowed;
 use chip::{Refusal, low_first_at};
 
 // Whether a log can have so many bytes.
+#[tactic(auto, unfolding(crate::specs::Tests::size_allowed))]
 pub fn size_allowed(n: usize) -> bool
     ensures { result ≡ size_allowed n }
 {
@@ -15,6 +16,7 @@ pub fn size_allowed(n: usize) -> bool
 }
 
 // The bytes before the trailer.
+#[tactic(auto, unfolding(crate::specs::Format::record_bytes))]
 pub fn record_bytes(log: &[u8]) -> &[u8]
     requires { size_allowed (length log.now) ≡ true }
     ensures { result.now ≡ record_bytes log.now }
@@ -24,6 +26,7 @@ pub fn record_bytes(log: &[u8]) -> &[u8]
 }
 
 // Whether the distance back to the first record is right.
+#[tactic(auto, unfolding(crate::specs::Tests::distance_right))]
 fn distance_right(log: &[u8]) -> bool
     requires { size_allowed (length log.now) ≡ true }
     ensures { result ≡ distance_right log.now }
@@ -34,6 +37,7 @@ fn distance_right(log: &[u8]) -> bool
 }
 
 // Whether the sum is that of the record bytes alone.
+#[tactic(auto, unfolding(crate::specs::Tests::log_sum_right, crate::specs::Format::record_bytes))]
 fn sum_right(log: &[u8]) -> bool
     requires { size_allowed (length log.now) ≡ true }
     ensures { result ≡ log_sum_right log.now }
@@ -44,20 +48,17 @@ fn sum_right(log: &[u8]) -> bool
 }
 
 // The tests of a log. A wrong form decides before a record that is not allowed.
-pub fn tested(log: &[u8]) -> Refusal
+pub fn tested(log: &[u8]) -> Result<(), Refusal>
     ensures { result ≡ refusal_of (log_tests log.now) }
 {
     if !size_allowed(log.len()) {
-        return Refusal::LogForm;
+        return Err(Refusal::LogForm);
     }
-    let form = distance_right(log) & sum_right(log);
-    let allowed = all_allowed(record_bytes(log));
-    if form & allowed {
-        return Refusal::Accepted;
+    if !(distance_right(log) & sum_right(log)) {
+        return Err(Refusal::LogForm);
     }
-    if form {
-        Refusal::LogRecord
-    } else {
-        Refusal::LogForm
+    if !all_allowed(record_bytes(log)) {
+        return Err(Refusal::LogRecord);
     }
+    Ok(())
 }

@@ -10,5 +10,5 @@ mod stretch;
 mod writing;
 
 pub use reading::read;
-pub use running::{Ran, run};
+pub use running::{Ran, Reached, run};
 pub use writing::write;

@@ -5,20 +5,17 @@ ghost use Rattle.port_log.specs.Calls.{read_refusal, read_records};
 use crate::form::{record_bytes, tested};
 use chip::Refusal;
 
-pub fn read(log: &[u8], records: &mut [u8]) -> Refusal
+pub fn read(log: &[u8], records: &mut [u8]) -> Result<(), Refusal>
     ensures value { result ≡ read_refusal log.now records.old }
     ensures records_after { records.new ≡ read_records log.now records.old }
 {
     if log.len() < 4 {
-        return Refusal::LogForm;
+        return Err(Refusal::LogForm);
     }
     if records.len() != log.len() - 4 {
-        return Refusal::LogForm;
+        return Err(Refusal::LogForm);
     }
-    let refusal = tested(log);
-    if refusal.number() != 0 {
-        return refusal;
-    }
-    chip::copy(records, record_bytes(log));
-    refusal
+    tested(log)?;
+    records.copy_from_slice(record_bytes(log));
+    Ok(())
 }

@@ -2,7 +2,7 @@
 ghost use Rattle.std.specs.Prelude.{◌≡◌, ◌+◌, ◌*◌, ◌<◌, length};
 ghost use Rattle.port_log.specs.Records as records;
 
-#[derive(Clone, Copy)]
+#[derive(Clone, Copy, PartialEq, Eq, Debug)]
 pub enum Operation {
     DataWrite,
     ControlWrite,
@@ -14,59 +14,54 @@ pub enum Operation {
 }
 
 // The two bytes of a record.
-#[derive(Clone, Copy)]
+#[derive(Clone, Copy, PartialEq, Eq, Debug)]
 pub struct Record {
     pub operation: u8,
     pub value: u8,
 }
 
-// The operation with a number.
-pub fn operation_of(number: u8) -> Operation
-    ensures { result ≡ records.operation_of number }
-{
-    match number {
-        0 => Operation::DataWrite,
-        1 => Operation::ControlWrite,
-        2 => Operation::DataRead,
-        3 => Operation::StatusRead,
-        4 => Operation::DrawLine,
-        5 => Operation::EndOfDisplay,
-        _ => Operation::Reset,
+// The operation with a number. No other number is allowed in a record, and only allowed records run.
+impl From<u8> for Operation {
+    ghost from_gives = { λ number operation. operation ≡ records.operation_of number };
+
+    #[tactic(auto, unfolding(crate::specs::Records::operation_of))]
+    fn from(number: u8) -> Operation {
+        match number {
+            0 => Operation::DataWrite,
+            1 => Operation::ControlWrite,
+            2 => Operation::DataRead,
+            3 => Operation::StatusRead,
+            4 => Operation::DrawLine,
+            5 => Operation::EndOfDisplay,
+            _ => Operation::Reset,
+        }
     }
 }
 
 pub fn is_read(operation: Operation) -> bool
     ensures { result ≡ records.is_read operation }
 {
-    match operation {
-        Operation::DataWrite => false,
-        Operation::ControlWrite => false,
-        Operation::DataRead => true,
-        Operation::StatusRead => true,
-        Operation::DrawLine => false,
-        Operation::EndOfDisplay => false,
-        Operation::Reset => false,
-    }
+    matches!(operation, Operation::DataRead | Operation::StatusRead)
 }
 
 fn value_allowed(operation: Operation, value: u8) -> bool
     ensures { result ≡ records.value_allowed operation value }
 {
     match operation {
-        Operation::DataWrite => true,
-        Operation::ControlWrite => true,
-        Operation::DataRead => true,
-        Operation::StatusRead => true,
+        Operation::DataWrite
+        | Operation::ControlWrite
+        | Operation::DataRead
+        | Operation::StatusRead => true,
         Operation::DrawLine => value <= 191,
-        Operation::EndOfDisplay => value == 0,
-        Operation::Reset => value == 0,
+        Operation::EndOfDisplay | Operation::Reset => value == 0,
     }
 }
 
+#[tactic(auto, unfolding(crate::specs::Records::allowed))]
 fn is_allowed(record: Record) -> bool
     ensures { result ≡ records.allowed «record» }
 {
-    let operation = operation_of(record.operation);
+    let operation = Operation::from(record.operation);
     (record.operation <= 6) & value_allowed(operation, record.value)
 }
 
@@ -85,14 +80,10 @@ pub fn record_at(bytes: &[u8], i: usize) -> Record
 pub fn all_allowed(bytes: &[u8]) -> bool
     ensures { result ≡ records.all_allowed (records.records_of bytes.now) }
 {
-    let count = bytes.len() / 2;
-    let mut i = 0;
-    while i < count {
-        let record = record_at(bytes, i);
-        if !is_allowed(record) {
+    for i in 0..bytes.len() / 2 {
+        if !is_allowed(record_at(bytes, i)) {
             return false;
         }
-        i += 1;
     }
     true
 }

@@ -5,20 +5,25 @@ ghost use Rattle.port_log.specs.Single.{target};
 ghost use Rattle.port_log.specs.Run as runs;
 
 use crate::form::{record_bytes, tested};
-use crate::records::{Record, is_read, operation_of, record_at};
+use crate::records::{Operation, Record, is_read, record_at};
 use crate::single::make_call;
 use crate::stretch::write_stretch;
 use chip::{Answer, Chip, Refusal};
 
-// The next state, why the run was refused if it was, how many records are done, the place of the read that differed or the
-// count of records, and the byte that was found there or 0.
-#[derive(Clone, Copy)]
-pub struct Ran {
-    pub chip: Chip,
-    pub refusal: Refusal,
+// How far a run came: how many records are done, the place of the read that differed or the count of records, and the byte that
+// was found there or 0.
+#[derive(Clone, Copy, PartialEq, Eq, Debug)]
+pub struct Reached {
     pub done: u16,
     pub place: u16,
     pub found: u8,
+}
+
+// The next state, and how far the run came; or the state as given, and why the run was refused.
+#[derive(Clone, Copy)]
+pub struct Ran {
+    pub chip: Chip,
+    pub result: Result<Reached, Refusal>,
 }
 
 impl Ran {
@@ -26,12 +31,9 @@ impl Ran {
     pub fn answer(self) -> Answer
         ensures { result ≡ runs.answer_of self }
     {
-        let chip = self.chip;
-        let refusal = self.refusal;
         Answer {
-            chip: chip,
-            refusal: refusal,
-            value: self.found,
+            chip: self.chip,
+            result: self.result.map(|reached| reached.found),
         }
     }
 }
@@ -40,11 +42,8 @@ fn refused(chip: Chip, refusal: Refusal) -> Ran
     ensures { result ≡ runs.refused_run chip refusal }
 {
     Ran {
-        chip: chip,
-        refusal: refusal,
-        done: 0,
-        place: 0,
-        found: 0,
+        chip,
+        result: Err(refusal),
     }
 }
 
@@ -52,8 +51,7 @@ fn refused(chip: Chip, refusal: Refusal) -> Ran
 fn differs(record: Record, byte: u8) -> bool
     ensures { result ≡ runs.differs «record» byte }
 {
-    let operation = operation_of(record.operation);
-    is_read(operation) & (byte != record.value)
+    is_read(Operation::from(record.operation)) & (byte != record.value)
 }
 
 // The records' calls, one after another, until a read differs.
@@ -67,37 +65,40 @@ fn run_records(chip: Chip, vram: &mut [u8], map: &mut [u8], line: &mut [u8], rec
     let count = records.len() / 2;
     let mut chip = chip;
     let mut i = 0;
+    // No `for`: data writes run many at a time.
     while i < count {
         let record = record_at(records, i);
         if record.operation == 0 {
             let stretch = write_stretch(chip, vram, map, records, i);
-            let written = stretch.chip;
-            chip = written;
+            chip = stretch.chip;
             i = stretch.next;
             continue;
         }
-        let operation = operation_of(record.operation);
+        let operation = Operation::from(record.operation);
         let answer = make_call(chip, vram, map, line, operation, record.value);
-        let next = answer.chip;
-        let done = i + 1;
-        if differs(record, answer.value) {
-            return Ran {
-                chip: next,
-                refusal: Refusal::Accepted,
-                done: done as u16,
+        let byte = answer.result.unwrap_or(0);
+        chip = answer.chip;
+        if differs(record, byte) {
+            let reached = Reached {
+                done: (i + 1) as u16,
                 place: i as u16,
-                found: answer.value,
+                found: byte,
+            };
+            return Ran {
+                chip,
+                result: Ok(reached),
             };
         }
-        chip = next;
-        i = done;
+        i += 1;
     }
-    Ran {
-        chip: chip,
-        refusal: Refusal::Accepted,
+    let reached = Reached {
         done: i as u16,
         place: i as u16,
         found: 0,
+    };
+    Ran {
+        chip,
+        result: Ok(reached),
     }
 }
 
@@ -120,8 +121,7 @@ pub fn run(chip: Chip, vram: &mut [u8], map: &mut [u8], line: &mut [u8], log: &[
     if !chip.is_well_formed() {
         return refused(chip, Refusal::IllFormed);
     }
-    let refusal = tested(log);
-    if refusal.number() != 0 {
+    if let Err(refusal) = tested(log) {
         return refused(chip, refusal);
     }
     run_records(chip, vram, map, line, record_bytes(log))

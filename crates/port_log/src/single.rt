@@ -5,6 +5,7 @@ ghost use Rattle.port_log.specs.Single as single;
 use crate::records::Operation;
 use chip::{Answer, Chip};
 
+#[tactic(auto, unfolding(crate::specs::Single::answer_by, crate::specs::Single::vram_by, crate::specs::Single::map_by, crate::specs::Single::line_by))]
 pub fn make_call(
     chip: Chip,
     vram: &mut [u8],

@@ -29,21 +29,10 @@ pub fn write_stretch(
     let mut next = i;
     loop {
         let record = record_at(records, next);
-        let answer = chip.data_write(vram, map, record.value);
-        let written = answer.chip;
-        chip = written;
+        chip = chip.data_write(vram, map, record.value).chip;
         next += 1;
-        if next == count {
-            return Stretch {
-                chip: chip,
-                next: next,
-            };
-        }
-        if records[2 * next] != 0 {
-            return Stretch {
-                chip: chip,
-                next: next,
-            };
+        if next == count || records[2 * next] != 0 {
+            return Stretch { chip, next };
         }
     }
 }

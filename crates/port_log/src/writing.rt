@@ -5,7 +5,7 @@ ghost use Rattle.port_log.specs.Calls.{write_refusal, written_log};
 
 use crate::form::size_allowed;
 use crate::records::all_allowed;
-use chip::{Refusal, low_first, put};
+use chip::{Refusal, put};
 
 // The records, and then the trailer.
 fn fill(records: &[u8], log: &mut [u8])
@@ -13,25 +13,25 @@ fn fill(records: &[u8], log: &mut [u8])
     ensures { log.new ≡ log_of records.now }
 {
     let trailer = put(log, 0, records);
-    let distance = low_first(trailer as u16);
+    let distance = (trailer as u16).to_le_bytes();
     let field = put(log, trailer, &distance);
-    let sum = low_first(snapshot::checksum(records));
+    let sum = snapshot::checksum(records).to_le_bytes();
     put(log, field, &sum);
 }
 
-pub fn write(records: &[u8], log: &mut [u8]) -> Refusal
+pub fn write(records: &[u8], log: &mut [u8]) -> Result<(), Refusal>
     ensures value { result ≡ write_refusal records.now log.old }
     ensures log_after { log.new ≡ written_log records.now log.old }
 {
     if !size_allowed(log.len()) {
-        return Refusal::LogForm;
+        return Err(Refusal::LogForm);
     }
     if records.len() != log.len() - 4 {
-        return Refusal::LogForm;
+        return Err(Refusal::LogForm);
     }
     if !all_allowed(records) {
-        return Refusal::LogRecord;
+        return Err(Refusal::LogRecord);
     }
     fill(records, log);
-    Refusal::Accepted
+    Ok(())
 }

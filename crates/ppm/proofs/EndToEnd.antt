@@ -7,21 +7,24 @@ use Prim.Native.Nat.{ℕ, zero, suc, ◌+◌}
 use native.Mathlib.Numerals.{add-one}
 use native.Mathlib.Omega.{arith}
 use mathlib.Core.Path.{◌≡◌, refl, sym, ap, ◌∙◌}
-use mathlib.Core.Bool.{Bool, true, cond}
+use mathlib.Core.Bool.{true, false}
 use mathlib.Core.List.{List, [], ◌++◌, append-nil, append_assoc}
 use lib.ListN.{length}
 use borrow.Author.Tests.{eq-eqb, ne_eqb}
 use Rattle.chip.specs.State.{well_formed}
-use Rattle.chip.specs.Refusals.{number_of}
+use Rattle.std.specs.Prelude.{Ok, Err}
+use Rattle.chip.specs.Refusals.{Outcome, number_of, is_accepted}
 use Rattle.chip.specs.declared.state.Chip.{Chip}
+use Rattle.chip.proofs.Laws.Refusals.{differ}
 use Rattle.scanline.specs.Calls.{colours}
 use Rattle.frame.specs.Lines.{lines_end_to_end}
 use Rattle.snapshot.specs.Calls.{read_vram}
+use Rattle.text.specs.Lines.{refused_text}
 use Rattle.text.specs.Pieces.{steps_from}
 use Rattle.text.proofs.Laws.Pieces.{wholly, last_step, more-steps}
 use Rattle.text.proofs.Laws.Reading.{from-file}
 use Rattle.ppm.specs.declared.walk.Next.{Next}
-use Rattle.ppm.specs.declared.walk.Next.TheVariants.{Refused, Header, Line}
+use Rattle.ppm.specs.declared.walk.Next.TheVariants.{Header, Line}
 use Rattle.ppm.specs.declared.walk.Walk.{Walk}
 use Rattle.ppm.specs.Picture.{painted, picture_of, picture_output}
 use Rattle.ppm.specs.Walk.{first_next, start_walk, step_of}
@@ -76,10 +79,16 @@ module _ (vram : List ℕ) (full : length vram ≡ 16384) (c : Chip) (ok : well_
       more-steps (step_of vram) 192 w (step_by vram w refl) refl
       (lines-written 191 0 refl ∙ ap wholly all)
 
+-- after a refusal, its line
+refused-first : (vram : List ℕ) (r : Outcome) (c : Chip) → is_accepted r ≡ false
+    → step_of vram (walk_at (first_next r) c) ≡ record { bytes = refused_text (number_of r); walk = walk_at (first_next r) c; last = true }
+refused-first vram (Ok x) c e = absurd (differ e)
+refused-first vram (Err n) c e = step_by vram _ refl
+
 pub end_to_end : (file vram : List ℕ) → length vram ≡ 16384
     → steps_from (step_of (read_vram vram file)) 193 (start_walk vram file) ≡ record { bytes = picture_output file; whole = true }
 end_to_end file vram full =
     from-file step_of (λ r c. walk_at (first_next r) c) picture_of 192
     picture-written
-    (λ v r c e. step_by v _ (ap (λ (b : Bool). cond b Header (Refused (number_of r))) e))
+    refused-first
     file vram full

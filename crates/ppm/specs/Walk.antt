@@ -1,35 +1,28 @@
 -- The walk over the output: where it starts, and what each step writes.
-use Rattle.std.specs.Prelude.{ℕ, ◌+◌, ◌-◌, true, false, List, [], eqb, length, replicate}
+use Rattle.std.specs.Prelude.{ℕ, ◌+◌, ◌-◌, true, false, List, eqb, replicate, Result, Ok, Err}
 use Rattle.chip.specs.State.{power_up_state}
-use Rattle.chip.specs.Refusals.{number_of, if_accepted}
+use Rattle.chip.specs.Refusals.{refusal_number, if_accepted}
 use Rattle.chip.specs.declared.refusal.Refusal.{Refusal}
 use Rattle.scanline.specs.Calls.{colours}
 use Rattle.scanline.specs.Colours.{draw_colours_refusal}
 use Rattle.frame.specs.Lines.{line_count}
-use Rattle.snapshot.specs.Calls.{read_snapshot}
+use Rattle.snapshot.specs.Calls.{read_refusal, read_snapshot}
 use Rattle.text.specs.Lines.{refused_text}
-use Rattle.text.specs.Pieces.{Step}
+use Rattle.text.specs.Pieces.{Step, writes_nothing}
 use Rattle.ppm.specs.declared.walk.Next.{Next}
 use Rattle.ppm.specs.declared.walk.Next.TheVariants.{Refused, Header, Line}
 use Rattle.ppm.specs.declared.walk.Walk.{Walk}
-use Rattle.ppm.specs.declared.walk.Piece.{Piece}
 use Rattle.ppm.specs.Picture.{header, painted}
 
 -- What is written first, by how reading the file was answered.
-abbrev pub first_next : Refusal → Next
-first_next r = if_accepted r Header (Refused (number_of r))
+module _ {A : Type 0} where
+  abbrev pub first_next : Result A Refusal → Next
+  first_next (Ok x) = Header
+  first_next (Err r) = Refused r
 
 -- The file is read from the power-up state, into the VRAM given.
 abbrev pub start_walk : List ℕ → List ℕ → Walk
-start_walk vram file = record { next = first_next (read_snapshot power_up_state vram file).refusal; chip = (read_snapshot power_up_state vram file).chip }
-
--- What the call answers of a step.
-abbrev pub piece_of : Step Walk → Piece
-piece_of s = record { walk = s.walk; written = length s.bytes; last = s.last }
-
--- Nothing is written, and nothing follows.
-abbrev pub writes_nothing : Walk → Step Walk
-writes_nothing w = record { bytes = []; walk = w; last = true }
+start_walk vram file = record { next = first_next (read_refusal vram file); chip = (read_snapshot power_up_state vram file).chip }
 
 -- The walk with another piece next.
 abbrev pub going : Walk → Next → Walk
@@ -43,7 +36,7 @@ line_step vram w l =
     (writes_nothing w)
 
 abbrev pub step_at : List ℕ → Next → Walk → Step Walk
-step_at vram (Refused n) w = record { bytes = refused_text n; walk = w; last = true }
+step_at vram (Refused r) w = record { bytes = refused_text (refusal_number r); walk = w; last = true }
 step_at vram Header w = record { bytes = header; walk = going w (Line 0); last = false }
 step_at vram (Line l) w = line_step vram w l
 
@@ -52,7 +45,7 @@ step_of vram w = step_at vram w.next w
 
 -- How many steps are left at most.
 abbrev pub left_from : Next → ℕ
-left_from (Refused n) = 1
+left_from (Refused r) = 1
 left_from Header = line_count + 1
 left_from (Line l) = line_count - l
 

@@ -5,4 +5,5 @@ mod paint;
 mod palette;
 mod walk;
 
-pub use walk::{Piece, Walk, start, step};
+pub use text::Piece;
+pub use walk::{Walk, start, step};

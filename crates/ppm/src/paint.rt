@@ -6,16 +6,12 @@ ghost use Rattle.ppm.specs.Picture.{painted};
 use crate::palette::rgb_of;
 
 // The pixels of colours, at the front of a slice.
+#[tactic(auto, using(crate::proofs::Laws::Paint::painting))]
 pub fn paint(colours: &[u8], out: &mut [u8])
     requires { 3 * length colours.now ≤ length out.old }
     ensures { out.new ≡ put_at 0 (painted colours.now) out.old }
 {
-    let mut x = 0;
-    while x < colours.len() {
-        let pixel = rgb_of(colours[x]);
-        out[3 * x] = pixel[0];
-        out[3 * x + 1] = pixel[1];
-        out[3 * x + 2] = pixel[2];
-        x += 1;
+    for (x, colour) in colours.iter().enumerate() {
+        out[3 * x..3 * x + 3].copy_from_slice(&rgb_of(*colour));
     }
 }

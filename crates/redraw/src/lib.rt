@@ -1,7 +1,9 @@
 // The eight lines of one row of names: those that are due are drawn into a lent part of the frame, with their notes.
 #![tactic(auto)]
 
+mod drawing;
 mod line;
 mod row;
 
+pub use drawing::Drawing;
 pub use row::redraw_row;

@@ -1,16 +1,12 @@
 // Redrawing one line of a row.
-ghost use Rattle.std.specs.Prelude.{◌≡◌, true, cond, ◌<◌, length};
-ghost use Rattle.chip.specs.Modes.{mode_of};
-ghost use Rattle.chip.specs.State.{masked};
-ghost use Rattle.rows.specs.Rows.{Paints};
-ghost use Rattle.words.specs.Words.{Masks};
+ghost use Rattle.std.specs.Prelude.{◌≡◌, cond, ◌<◌, length};
 ghost use Rattle.scanline.specs.Calls.{note_at, colours};
 ghost use Rattle.redraw.specs.declared.line.Planes.TheVariants.{Here, Beside};
 ghost use Rattle.redraw.specs.Row.{LineSet, plane_line};
 
+use crate::drawing::Drawing;
 use blit::draw_found;
-use chip::{Mode, copy};
-use rows::draw_plane_line;
+use rows::{Brush, draw_plane_line};
 use scanline::note_of;
 use sets::scan_by_set;
 
@@ -25,39 +21,29 @@ pub enum Planes {
 }
 
 // The sprites over the plane of line l. Answers the note.
-fn finish_line(r: [u8; 8], vram: &[u8], l: u8, set: u32, masks: &[u64], line: &mut [u8]) -> u8
-    requires { (masked r ≡ true) × (length vram.now ≡ 16384) × LineSet r vram.now l set × Masks masks.now × (line.old ≡ plane_line r vram.now l) }
-    ensures value { result ≡ note_at r vram.now l }
-    ensures line_after { line.new ≡ colours r vram.now l }
+fn finish_line(brush: &Brush, l: u8, set: u32, line: &mut [u8]) -> u8
+    requires { LineSet brush.now.screen.registers brush.now.screen.vram.now l set × (line.old ≡ plane_line brush.now.screen.registers brush.now.screen.vram.now l) }
+    ensures value { result ≡ note_at brush.now.screen.registers brush.now.screen.vram.now l }
+    ensures line_after { line.new ≡ colours brush.now.screen.registers brush.now.screen.vram.now l }
 {
     if set == 0 {
         return 32;
     }
-    let scan = scan_by_set(r, vram, l, set);
+    let scan = scan_by_set(brush.screen, l, set);
     let ended = scan.ended;
-    let met = draw_found(line, masks, r, scan);
+    let met = draw_found(line, &brush.masks, brush.screen.registers, scan);
     note_of(ended, met)
 }
 
 // Brings the plane of line l into its part of the frame, where it is not there yet.
-fn bring_plane(
-    planes: Planes,
-    mode: Mode,
-    r: [u8; 8],
-    vram: &[u8],
-    l: u8,
-    masks: &[u64],
-    paints: &[u64],
-    beside: &[u8],
-    line: &mut [u8],
-)
-    requires { (mode ≡ mode_of r) × (masked r ≡ true) × (length vram.now ≡ 16384) × (l < 192) × Masks masks.now × Paints r paints.now × (length beside.now ≡ 256) × (length line.old ≡ 256) × (planes ≡ Here → line.old ≡ plane_line r vram.now l) × (planes ≡ Beside → beside.now ≡ plane_line r vram.now l) }
-    ensures { line.new ≡ plane_line r vram.now l }
+fn bring_plane(planes: Planes, drawing: &Drawing, l: u8, beside: &[u8], line: &mut [u8])
+    requires { (l < 192) × (length beside.now ≡ 256) × (length line.old ≡ 256) × (planes ≡ Here → line.old ≡ plane_line drawing.now.brush.screen.registers drawing.now.brush.screen.vram.now l) × (planes ≡ Beside → beside.now ≡ plane_line drawing.now.brush.screen.registers drawing.now.brush.screen.vram.now l) }
+    ensures { line.new ≡ plane_line drawing.now.brush.screen.registers drawing.now.brush.screen.vram.now l }
 {
     match planes {
         Planes::Here => {}
-        Planes::Beside => copy(line, beside),
-        Planes::Nowhere => draw_plane_line(mode, r, vram, l as usize, masks, paints, line),
+        Planes::Beside => line.copy_from_slice(beside),
+        Planes::Nowhere => draw_plane_line(drawing.mode, &drawing.brush, l as usize, line),
     }
 }
 
@@ -65,24 +51,19 @@ fn bring_plane(
 pub fn redraw_line(
     planes: Planes,
     due: bool,
-    mode: Mode,
-    r: [u8; 8],
-    vram: &[u8],
+    drawing: &Drawing,
     l: u8,
-    set: u32,
-    masks: &[u64],
-    paints: &[u64],
     beside: &[u8],
     line: &mut [u8],
     note: u8,
 ) -> u8
-    requires { (mode ≡ mode_of r) × (masked r ≡ true) × (length vram.now ≡ 16384) × (l < 192) × LineSet r vram.now l set × Masks masks.now × Paints r paints.now × (length beside.now ≡ 256) × (length line.old ≡ 256) × (planes ≡ Here → line.old ≡ plane_line r vram.now l) × (planes ≡ Beside → beside.now ≡ plane_line r vram.now l) }
-    ensures value { result ≡ cond due (note_at r vram.now l) note }
-    ensures line_after { line.new ≡ cond due (colours r vram.now l) line.old }
+    requires { (l < 192) × (length beside.now ≡ 256) × (length line.old ≡ 256) × (planes ≡ Here → line.old ≡ plane_line drawing.now.brush.screen.registers drawing.now.brush.screen.vram.now l) × (planes ≡ Beside → beside.now ≡ plane_line drawing.now.brush.screen.registers drawing.now.brush.screen.vram.now l) }
+    ensures value { result ≡ cond due (note_at drawing.now.brush.screen.registers drawing.now.brush.screen.vram.now l) note }
+    ensures line_after { line.new ≡ cond due (colours drawing.now.brush.screen.registers drawing.now.brush.screen.vram.now l) line.old }
 {
     if !due {
         return note;
     }
-    bring_plane(planes, mode, r, vram, l, masks, paints, beside, line);
-    finish_line(r, vram, l, set, masks, line)
+    bring_plane(planes, drawing, l, beside, line);
+    finish_line(&drawing.brush, l, drawing.sets[l as usize], line)
 }

@@ -6,9 +6,9 @@ use mathlib.Core.Bool.{Bool, true, false, cond}
 use mathlib.Core.List.{List}
 use lib.ListN.{length, length-drop, length-replicate}
 use lib.Seq.{length-take-le}
+use Rattle.std.specs.Prelude.{Err}
 use Rattle.chip.specs.Map.{map_size}
-use Rattle.chip.specs.Refusals.{refusal_of, is_accepted, if_accepted}
-use Rattle.chip.specs.declared.refusal.Refusal.{Refusal}
+use Rattle.chip.specs.Refusals.{Outcome, refusal_of, is_accepted, if_accepted}
 use Rattle.chip.specs.declared.refusal.Refusal.TheVariants.{LogForm}
 use Rattle.chip.proofs.Laws.Refusals.{is-accepted}
 use Rattle.scanline.specs.Calls.{line_size}
@@ -17,7 +17,7 @@ use Rattle.port_log.proofs.Laws.Tested.{log-decides}
 use Rattle.input.specs.Came.{long_buffer_size, came_in, Came}
 use Rattle.replay.specs.Streams.{log_part, start_state, start_vram, clear_list, replay_refusal, snapshot_refusal}
 use Rattle.replay.proofs.Laws.Refused.{by-snapshot, by-run}
-use Rattle.replay.proofs.Laws.Accepted.{run-refusal, start-formed, start-full}
+use Rattle.replay.proofs.Laws.Accepted.{start-formed, start-full}
 
 -- Whatever comes in is refused with the refusal of the snapshot's part, and where that is accepted with that of the log
 -- behind it, whose tests give 8 or 9. No other test of the run can fail.
@@ -28,12 +28,11 @@ snapshot-then-log input = by (is_accepted (snapshot_refusal input)) refl
     by true e =
         let ok = is-accepted (snapshot_refusal input) e in
         by-run input ok
-        ∙ run-refusal input
         ∙ log-decides (start_state input) (start_vram input) (clear_list map_size) (clear_list line_size) (log_part input) (start-full input ok) (length-replicate {A = ℕ} 2048 0) (length-replicate {A = ℕ} 256 0) (start-formed input ok)
     by false e = by-snapshot input e
 
 -- a log of 40,005 bytes
-too_long : (log : List ℕ) → length log ≡ 40005 → refusal_of (log_tests log) ≡ LogForm
+too_long : (log : List ℕ) → length log ≡ 40005 → refusal_of (log_tests log) ≡ Err LogForm
 unfolding size_allowed
 too_long log e = rw e
 
@@ -42,9 +41,9 @@ too_long log e = rw e
 -- is what reading until it is full does; no contract of the C library says so.
 pub longer-is-refused : (buffer : List ℕ) → Came long_buffer_size long_buffer_size buffer
     → let input = came_in long_buffer_size buffer in
-    replay_refusal input ≡ if_accepted (snapshot_refusal input) LogForm (snapshot_refusal input)
+    replay_refusal input ≡ if_accepted (snapshot_refusal input) (Err LogForm) (snapshot_refusal input)
 longer-is-refused buffer came =
     let input : List ℕ = came_in long_buffer_size buffer in
     let all : length input ≡ 56411 = length-take-le long_buffer_size buffer (omega arith) in
     snapshot-then-log input
-    ∙ ap (λ (r : Refusal). if_accepted (snapshot_refusal input) r (snapshot_refusal input)) (too_long (log_part input) (rw length-drop (omega arith)))
+    ∙ ap (λ (r : Outcome). if_accepted (snapshot_refusal input) r (snapshot_refusal input)) (too_long (log_part input) (rw length-drop (omega arith)))

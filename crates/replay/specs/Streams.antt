@@ -3,13 +3,13 @@ use Rattle.std.specs.Prelude.{ℕ, List, [], length, take, drop, replicate}
 use Rattle.chip.specs.State.{power_up_state}
 use Rattle.chip.specs.Map.{map_size}
 use Rattle.chip.specs.Ports.{cleared_vram}
-use Rattle.chip.specs.Refusals.{number_of, if_accepted}
+use Rattle.chip.specs.Refusals.{Outcome, number_of, if_accepted}
 use Rattle.chip.specs.declared.state.Chip.{Chip}
-use Rattle.chip.specs.declared.refusal.Refusal.{Refusal}
 use Rattle.scanline.specs.Calls.{line_size}
 use Rattle.snapshot.specs.Format.{snapshot_size, snapshot_of}
 use Rattle.snapshot.specs.Calls.{read_refusal, read_snapshot, read_vram}
-use Rattle.port_log.specs.Run.{run_log, run_vram}
+use Rattle.port_log.specs.Run.{run_refusal, run_log, run_vram, end_of, reached_of}
+use Rattle.port_log.specs.declared.running.Reached.{Reached}
 use Rattle.port_log.specs.declared.running.Ran.{Ran}
 use Rattle.text.specs.Lines.{refused_text}
 use Rattle.replay.specs.Report.{report_text}
@@ -40,24 +40,31 @@ abbrev pub vram_after : List ℕ → List ℕ
 vram_after input = run_vram (start_state input) (start_vram input) (clear_list map_size) (clear_list line_size) (log_part input)
 
 -- The snapshot's refusal, and then that of the run.
-abbrev pub snapshot_refusal : List ℕ → Refusal
+abbrev pub snapshot_refusal : List ℕ → Outcome
 snapshot_refusal input = read_refusal cleared_vram (snapshot_part input)
 
-unfoldable pub replay_refusal : List ℕ → Refusal
-replay_refusal input = if_accepted (snapshot_refusal input) (ran input).refusal (snapshot_refusal input)
+abbrev pub refusal_of_run : List ℕ → Outcome
+refusal_of_run input = run_refusal (start_state input) (start_vram input) (clear_list map_size) (clear_list line_size) (log_part input)
+
+unfoldable pub replay_refusal : List ℕ → Outcome
+replay_refusal input = if_accepted (snapshot_refusal input) (refusal_of_run input) (snapshot_refusal input)
 
 -- Both streams: the snapshot after the run and the run's report; or nothing and the line of the refusal.
 pub record Streams : Type 0 where
   pub output : List ℕ
   pub errors : List ℕ
 
-abbrev pub report_of : Ran → List ℕ
+-- How far the run came, where it is accepted.
+abbrev pub reached : List ℕ → Reached
+reached input = reached_of (end_of (start_state input) (start_vram input) (clear_list map_size) (clear_list line_size) (log_part input))
+
+abbrev pub report_of : Reached → List ℕ
 report_of r = report_text r.done r.place r.found
 
 abbrev pub after_run : List ℕ → Streams
-after_run input = record { output = snapshot_of (ran input).chip (vram_after input); errors = report_of (ran input) }
+after_run input = record { output = snapshot_of (ran input).chip (vram_after input); errors = report_of (reached input) }
 
-abbrev pub after_refusal : Refusal → Streams
+abbrev pub after_refusal : Outcome → Streams
 after_refusal r = record { output = []; errors = refused_text (number_of r) }
 
 unfoldable pub replayed : List ℕ → Streams

@@ -7,13 +7,11 @@ mod streams;
 use streams::replay;
 
 fn main(rt: HostRuntime) {
-    let mut file = [0u8; 56411];
-    let count = input::read_with_log(&mut rt.stdin(), &mut file);
+    let mut file = input::long_buffer();
+    let count = input::read(&mut rt.stdin(), &mut file);
     let mut output = [0u8; 16406];
     let mut errors = [0u8; 64];
     let written = replay(&file[..count], &mut output, &mut errors);
-    let n = written.output;
-    let _ = rt.write_all(&output[..n]);
-    let m = written.errors;
-    let _ = rt.stderr().write_all(&errors[..m]);
+    let _ = rt.write_all(&output[..written.output]);
+    let _ = rt.stderr().write_all(&errors[..written.errors]);
 }

@@ -6,20 +6,17 @@ ghost use Rattle.replay.specs.Report.{report_text};
 use chip::put;
 use text::{put_decimal, put_long_decimal};
 
+#[tactic(auto, using(text::proofs::Laws::Numbers::lengths), unfolding(crate::specs::Report::report_text))]
 pub fn put_report(out: &mut [u8], done: u16, place: u16, found: u8) -> usize
     requires { 64 ≤ length out.old }
     ensures value { result ≡ length (report_text done place found) }
     ensures out_after { out.new ≡ put_at 0 (report_text done place found) out.old }
 {
-    let done_word = *b"done ";
-    let a = put(out, 0, &done_word);
+    let a = put(out, 0, b"done ");
     let b = put_long_decimal(out, a, done as usize);
-    let place_word = *b" place ";
-    let c = put(out, b, &place_word);
+    let c = put(out, b, b" place ");
     let d = put_long_decimal(out, c, place as usize);
-    let found_word = *b" found ";
-    let e = put(out, d, &found_word);
+    let e = put(out, d, b" found ");
     let f = put_decimal(out, e, found as usize);
-    let newline = [b'\n'];
-    put(out, f, &newline)
+    put(out, f, b"\n")
 }

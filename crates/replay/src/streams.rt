@@ -1,7 +1,7 @@
 // Both streams of the program, from its whole input.
 ghost use Rattle.std.specs.Prelude.{◌≡◌, ◌≤◌, length};
 ghost use Rattle.chip.specs.Lists.{put_at};
-ghost use Rattle.chip.specs.Refusals.{number_of};
+ghost use Rattle.chip.specs.Refusals.{refusal_number};
 ghost use Rattle.text.specs.Lines.{refused_text};
 ghost use Rattle.replay.specs.Streams as streams;
 
@@ -19,13 +19,12 @@ pub struct Written {
 // The line of a refusal, and nothing on standard output.
 fn refuse(refusal: Refusal, errors: &mut [u8]) -> Written
     requires { 64 ≤ length errors.old }
-    ensures value { result ≡ record { output = 0; errors = length (refused_text (number_of refusal)) } }
-    ensures errors_after { errors.new ≡ put_at 0 (refused_text (number_of refusal)) errors.old }
+    ensures value { result ≡ record { output = 0; errors = length (refused_text (refusal_number refusal)) } }
+    ensures errors_after { errors.new ≡ put_at 0 (refused_text (refusal_number refusal)) errors.old }
 {
-    let end_of_line = put_refusal(errors, refusal);
     Written {
         output: 0,
-        errors: end_of_line,
+        errors: put_refusal(errors, refusal),
     }
 }
 
@@ -40,23 +39,20 @@ pub fn replay(input: &[u8], output: &mut [u8; 16406], errors: &mut [u8; 64]) -> 
     }
     let mut vram = [0u8; 16384];
     let answer = snapshot::read(Chip::power_up_state(), &mut vram, &input[..16406]);
-    let refusal = answer.refusal;
-    if refusal.number() != 0 {
+    if let Err(refusal) = answer.result {
         return refuse(refusal, errors);
     }
     let mut map = [0u8; 2048];
     let mut line = [0u8; 256];
-    let start = answer.chip;
-    let ran = port_log::run(start, &mut vram, &mut map, &mut line, &input[16406..]);
-    let run_refusal = ran.refusal;
-    if run_refusal.number() != 0 {
-        return refuse(run_refusal, errors);
-    }
-    let next = ran.chip;
-    snapshot::write(next, &vram, output);
-    let end_of_line = put_report(errors, ran.done, ran.place, ran.found);
-    Written {
-        output: 16406,
-        errors: end_of_line,
+    let ran = port_log::run(answer.chip, &mut vram, &mut map, &mut line, &input[16406..]);
+    match ran.result {
+        Err(refusal) => refuse(refusal, errors),
+        Ok(reached) => {
+            snapshot::write(ran.chip, &vram, output);
+            Written {
+                output: 16406,
+                errors: put_report(errors, reached.done, reached.place, reached.found),
+            }
+        }
     }
 }

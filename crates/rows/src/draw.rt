@@ -1,133 +1,105 @@
 // The pattern plane of a row, a loop for each mode: what differs between modes is settled before the first cell.
-ghost use Rattle.std.specs.Prelude.{◌≡◌, true, ◌<◌, length};
-ghost use Rattle.chip.specs.State.{masked};
+ghost use Rattle.std.specs.Prelude.{◌≡◌, ℕ, ◌+◌, ◌*◌, ◌≤◌, ◌<◌, length, get_or};
+ghost use Rattle.chip.specs.State.{register};
 ghost use Rattle.chip.specs.declared.mode.Mode.TheVariants.{GraphicsI, GraphicsII, Multicolor, Text};
-ghost use Rattle.rows.specs.Rows.{plane_row, ByteWords, Paints};
-ghost use Rattle.words.specs.Words.{Masks};
+ghost use Rattle.rows.specs.Rows.{plane_row, ByteWords};
 
+use crate::brush::Brush;
 use crate::stripe::{paint_blocks, paint_bytes, paint_coloured, paint_patterns};
-use chip::{Mode, fill};
+use chip::{Mode, Screen};
 use planes::behind_planes;
 
-fn draw_graphics_one(
-    r: [u8; 8],
-    vram: &[u8],
-    row: usize,
-    masks: &[u64],
-    paints: &[u64],
-    part: &mut [u8],
-)
-    requires { (masked r ≡ true) × (length vram.now ≡ 16384) × (row < 24) × Masks masks.now × Paints r paints.now × (length part.old ≡ 2048) }
-    ensures { part.new ≡ plane_row GraphicsI r vram.now row }
+// So many names, from a place in the name table on.
+fn names_from<'a>(screen: Screen<'a>, place: usize, count: usize) -> &'a [u8]
+    requires { place + count ≤ 960 }
+    ensures { (length result.now ≡ count) × ((i : ℕ) → i < count → get_or result.now i 0 ≡ get_or screen.entry.vram.now (register 2 screen.entry.registers * 1024 + place + i) 0) }
 {
-    let names = r[2] as usize * 1024 + row * 32;
-    let patterns = r[4] as usize * 2048;
-    let colours = r[3] as usize * 64;
-    let mut i = 0;
-    while i < 32 {
-        let name = vram[names + i] as usize;
+    let first = screen.registers[2] as usize * 1024 + place;
+    let vram = screen.vram;
+    &vram[first..first + count]
+}
+
+// The loops over the 32 cells of a row stay three: one function with a closure that paints a cell would lend it the part, and its
+// contract, which speaks of any such closure, would be longer than the loops.
+fn draw_graphics_one(brush: &Brush, row: usize, part: &mut [u8])
+    requires { (row < 24) × (length part.old ≡ 2048) }
+    ensures { part.new ≡ plane_row GraphicsI brush.now.screen.registers brush.now.screen.vram.now row }
+{
+    let screen = brush.screen;
+    let vram = screen.vram;
+    let patterns = screen.registers[4] as usize * 2048;
+    let colours = screen.registers[3] as usize * 64;
+    for (i, name) in names_from(screen, row * 32, 32).iter().enumerate() {
+        let name = *name as usize;
         let both = vram[colours + name / 8] as usize;
         paint_patterns(
             part,
             8 * i,
-            vram,
+            brush,
             patterns + 8 * name,
-            masks,
-            paints[both / 16],
-            paints[both % 16],
+            brush.paints[both / 16],
+            brush.paints[both % 16],
         );
-        i += 1;
     }
 }
 
-fn draw_graphics_two(
-    r: [u8; 8],
-    vram: &[u8],
-    row: usize,
-    masks: &[u64],
-    paints: &[u64],
-    part: &mut [u8],
-)
-    requires { (masked r ≡ true) × (length vram.now ≡ 16384) × (row < 24) × Masks masks.now × Paints r paints.now × (length part.old ≡ 2048) }
-    ensures { part.new ≡ plane_row GraphicsII r vram.now row }
+fn draw_graphics_two(brush: &Brush, row: usize, part: &mut [u8])
+    requires { (row < 24) × (length part.old ≡ 2048) }
+    ensures { part.new ≡ plane_row GraphicsII brush.now.screen.registers brush.now.screen.vram.now row }
 {
-    let names = r[2] as usize * 1024 + row * 32;
+    let screen = brush.screen;
     let third = row / 8 * 2048;
-    let patterns = r[4] as usize / 4 * 8192 + third;
-    let colours = r[3] as usize / 128 * 8192 + third;
-    let mut i = 0;
-    while i < 32 {
-        let name = vram[names + i] as usize;
-        paint_coloured(
-            part,
-            8 * i,
-            vram,
-            patterns + 8 * name,
-            colours + 8 * name,
-            masks,
-            paints,
-        );
-        i += 1;
+    let patterns = screen.registers[4] as usize / 4 * 8192 + third;
+    let colours = screen.registers[3] as usize / 128 * 8192 + third;
+    for (i, name) in names_from(screen, row * 32, 32).iter().enumerate() {
+        let name = *name as usize;
+        paint_coloured(part, 8 * i, brush, patterns + 8 * name, colours + 8 * name);
     }
 }
 
 // The two bytes of a name that a row shows have four lines each.
-fn draw_multicolor(r: [u8; 8], vram: &[u8], row: usize, words: &[u64], part: &mut [u8])
-    requires { (masked r ≡ true) × (length vram.now ≡ 16384) × (row < 24) × ByteWords Multicolor r words.now × (length part.old ≡ 2048) }
-    ensures { part.new ≡ plane_row Multicolor r vram.now row }
+fn draw_multicolor(screen: Screen, row: usize, words: &[u64], part: &mut [u8])
+    requires { (row < 24) × ByteWords Multicolor screen.registers words.now × (length part.old ≡ 2048) }
+    ensures { part.new ≡ plane_row Multicolor screen.entry.registers screen.entry.vram.now row }
 {
-    let names = r[2] as usize * 1024 + row * 32;
-    let patterns = r[4] as usize * 2048 + row % 4 * 2;
-    let mut i = 0;
-    while i < 32 {
-        let name = vram[names + i] as usize;
+    let vram = screen.vram;
+    let patterns = screen.registers[4] as usize * 2048 + row % 4 * 2;
+    for (i, name) in names_from(screen, row * 32, 32).iter().enumerate() {
+        let name = *name as usize;
         let at = patterns + 8 * name;
         let upper = words[vram[at] as usize];
         let lower = words[vram[at + 1] as usize];
         paint_blocks(part, 8 * i, upper, lower);
-        i += 1;
     }
 }
 
 // Cells of six columns are painted with eight, of which the next cell covers two, and the margin those of the last.
-fn draw_text(r: [u8; 8], vram: &[u8], row: usize, paints: &[u64], words: &[u64], part: &mut [u8])
-    requires { (masked r ≡ true) × (length vram.now ≡ 16384) × (row < 24) × ByteWords Text r words.now × Paints r paints.now × (length part.old ≡ 2048) }
-    ensures { part.new ≡ plane_row Text r vram.now row }
+fn draw_text(brush: &Brush, row: usize, words: &[u64], part: &mut [u8])
+    requires { (row < 24) × ByteWords Text brush.now.screen.registers words.now × (length part.old ≡ 2048) }
+    ensures { part.new ≡ plane_row Text brush.now.screen.registers brush.now.screen.vram.now row }
 {
-    let names = r[2] as usize * 1024 + row * 40;
-    let patterns = r[4] as usize * 2048;
-    let margin = paints[0];
+    let screen = brush.screen;
+    let vram = screen.vram;
+    let patterns = screen.registers[4] as usize * 2048;
+    let margin = brush.paints[0];
     paint_blocks(part, 0, margin, margin);
-    let mut at = 8;
-    let mut i = 0;
-    while i < 40 {
-        let name = vram[names + i] as usize;
-        paint_bytes(part, at, vram, patterns + 8 * name, words);
-        at += 6;
-        i += 1;
+    for (i, name) in names_from(screen, row * 40, 40).iter().enumerate() {
+        let name = *name as usize;
+        paint_bytes(part, 8 + 6 * i, vram, patterns + 8 * name, words);
     }
     paint_blocks(part, 248, margin, margin);
 }
 
 // The pattern plane over the backdrop on lines 8 * row to 8 * row + 7, which stand end to end in the lent part.
-pub fn draw_plane_row(
-    mode: Mode,
-    r: [u8; 8],
-    vram: &[u8],
-    row: usize,
-    masks: &[u64],
-    paints: &[u64],
-    words: &[u64],
-    part: &mut [u8],
-)
-    requires { (masked r ≡ true) × (length vram.now ≡ 16384) × (row < 24) × Masks masks.now × Paints r paints.now × (length part.old ≡ 2048) × ByteWords mode r words.now }
-    ensures { part.new ≡ plane_row mode r vram.now row }
+pub fn draw_plane_row(mode: Mode, brush: &Brush, row: usize, words: &[u64], part: &mut [u8])
+    requires { (row < 24) × (length part.old ≡ 2048) × ByteWords mode brush.now.screen.registers words.now }
+    ensures { part.new ≡ plane_row mode brush.now.screen.registers brush.now.screen.vram.now row }
 {
     match mode {
-        Mode::Blank => fill(part, behind_planes(r)),
-        Mode::GraphicsI => draw_graphics_one(r, vram, row, masks, paints, part),
-        Mode::GraphicsII => draw_graphics_two(r, vram, row, masks, paints, part),
-        Mode::Multicolor => draw_multicolor(r, vram, row, words, part),
-        Mode::Text => draw_text(r, vram, row, paints, words, part),
+        Mode::Blank => part.fill(behind_planes(brush.screen.registers)),
+        Mode::GraphicsI => draw_graphics_one(brush, row, part),
+        Mode::GraphicsII => draw_graphics_two(brush, row, part),
+        Mode::Multicolor => draw_multicolor(brush.screen, row, words, part),
+        Mode::Text => draw_text(brush, row, words, part),
     }
 }

@@ -2,12 +2,14 @@
 // its name, and in most modes its colours, are read once for eight lines. A line that is wanted alone is drawn by itself.
 #![tactic(auto)]
 
+mod brush;
 mod draw;
 mod line;
 mod paint;
 mod shown;
 mod stripe;
 
+pub use brush::Brush;
 pub use draw::draw_plane_row;
 pub use line::draw_plane_line;
 pub use paint::paints;

@@ -10,11 +10,8 @@ pub fn paints(r: [u8; 8]) -> [u64; 16]
 {
     let behind = behind_planes(r);
     let mut paints = [0u64; 16];
-    let mut colour: u8 = 0;
-    while colour < 16 {
-        let at = colour as usize;
-        paints[at] = repeated(over(colour, behind));
-        colour += 1;
+    for colour in 0..16u8 {
+        paints[colour as usize] = repeated(over(colour, behind));
     }
     paints
 }

@@ -18,10 +18,8 @@ fn text_words(r: [u8; 8], masks: &[u64], paints: &[u64]) -> [u64; 256]
     let one = paints[both / 16];
     let zero = paints[both % 16];
     let mut words = [0u64; 256];
-    let mut b = 0;
-    while b < 256 {
+    for b in 0..256 {
         words[b] = blend(masks[b], one, zero);
-        b += 1;
     }
     words
 }
@@ -34,10 +32,8 @@ fn add_blocks(words: &mut [u64], high: usize, masks: &[u64], paints: &[u64])
     let mask = masks[0xF0];
     let left = paints[high];
     let first = 16 * high;
-    let mut low = 0;
-    while low < 16 {
+    for low in 0..16 {
         words[first + low] = blend(mask, left, paints[low]);
-        low += 1;
     }
 }
 
@@ -46,10 +42,8 @@ fn multicolor_words(r: [u8; 8], masks: &[u64], paints: &[u64]) -> [u64; 256]
     ensures { ByteWords Multicolor r result }
 {
     let mut words = [0u64; 256];
-    let mut high = 0;
-    while high < 16 {
+    for high in 0..16 {
         add_blocks(&mut words, high, masks, paints);
-        high += 1;
     }
     words
 }
@@ -60,9 +54,7 @@ pub fn byte_words(mode: Mode, r: [u8; 8], masks: &[u64], paints: &[u64]) -> [u64
     ensures { ByteWords mode r result }
 {
     match mode {
-        Mode::Blank => [0u64; 256],
-        Mode::GraphicsI => [0u64; 256],
-        Mode::GraphicsII => [0u64; 256],
+        Mode::Blank | Mode::GraphicsI | Mode::GraphicsII => [0u64; 256],
         Mode::Multicolor => multicolor_words(r, masks, paints),
         Mode::Text => text_words(r, masks, paints),
     }

@@ -1,10 +1,9 @@
 -- The call that draws a line.
 use Rattle.std.specs.Prelude.{ℕ, List, [], ◌∷◌}
-use Rattle.chip.specs.Refusals.{Test, vram_test, slice_test, state_test, line_test, refusal_of, if_accepted, answered}
+use Rattle.chip.specs.Refusals.{Outcome, Test, vram_test, slice_test, state_test, line_test, refusal_of, if_accepted, answered}
 use Rattle.chip.specs.State.{with_status}
 use Rattle.chip.specs.declared.state.Chip.{Chip}
 use Rattle.chip.specs.declared.refusal.Answer.{Answer}
-use Rattle.chip.specs.declared.refusal.Refusal.{Refusal}
 use Rattle.fetches.specs.Fetch.{value}
 use Rattle.scanline.specs.Line.{line_of, colours_of, origins_of}
 use Rattle.scanline.specs.Notes.{note_of, status_after}
@@ -30,7 +29,8 @@ draw_line_own_tests line codes l = slice_test line_size line ∷ slice_test line
 abbrev pub draw_line_tests : Chip → List ℕ → List ℕ → List ℕ → ℕ → List Test
 draw_line_tests c vram line codes l = vram_test vram ∷ state_test c ∷ draw_line_own_tests line codes l
 
-abbrev pub draw_line_refusal : Chip → List ℕ → List ℕ → List ℕ → ℕ → Refusal
+-- How they end: all passed, or a refusal.
+abbrev pub draw_line_refusal : Chip → List ℕ → List ℕ → List ℕ → ℕ → Outcome
 draw_line_refusal c vram line codes l = refusal_of (draw_line_tests c vram line codes l)
 
 -- The line's note updates status, and nothing else of the state changes.

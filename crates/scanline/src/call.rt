@@ -4,11 +4,11 @@ ghost use Rattle.scanline.specs.Calls as calls;
 
 use crate::draw::draw_row_with_origins;
 use crate::note::status_after;
-use chip::{Answer, Chip, Refusal};
+use chip::{Answer, Chip, Refusal, Screen};
 
 // Draws one line into a lent slice, and the codes of its pixels' origins into another. The line's note updates status.
 pub fn draw_line(
-    chip: Chip,
+    mut chip: Chip,
     vram: &[u8],
     line: &mut [u8],
     origins: &mut [u8],
@@ -33,9 +33,8 @@ pub fn draw_line(
     if 191 < number {
         return chip.refused(Refusal::LineNumber);
     }
-    let registers = chip.registers;
-    let note = draw_row_with_origins(registers, vram, number as u8, line, origins);
-    let mut next = chip;
-    next.status = status_after(chip.status, note);
-    next.accepted(0)
+    let screen = Screen::new(chip.registers, vram);
+    let note = draw_row_with_origins(screen, number as u8, line, origins);
+    chip.status = status_after(chip.status, note);
+    chip.accepted(0)
 }

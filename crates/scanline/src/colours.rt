@@ -4,9 +4,11 @@ ghost use Rattle.scanline.specs.Colours as calls;
 
 use crate::draw::draw_row;
 use crate::note::status_after;
-use chip::{Answer, Chip, Refusal};
+use chip::{Answer, Chip, Refusal, Screen};
 
-pub fn draw_colours(chip: Chip, vram: &[u8], line: &mut [u8], number: u32) -> Answer
+// The tests stand here again: `draw_line` has that of the slice for origins in their midst, so a function of both calls would need its
+// length as a parameter, with one made up here.
+pub fn draw_colours(mut chip: Chip, vram: &[u8], line: &mut [u8], number: u32) -> Answer
     ensures value { result ≡ calls.draw_colours chip vram.now line.old number }
     ensures line_after { line.new ≡ calls.draw_colours_line chip vram.now line.old number }
 {
@@ -22,9 +24,8 @@ pub fn draw_colours(chip: Chip, vram: &[u8], line: &mut [u8], number: u32) -> An
     if 191 < number {
         return chip.refused(Refusal::LineNumber);
     }
-    let registers = chip.registers;
-    let note = draw_row(registers, vram, number as u8, line);
-    let mut next = chip;
-    next.status = status_after(chip.status, note);
-    next.accepted(0)
+    let screen = Screen::new(chip.registers, vram);
+    let note = draw_row(screen, number as u8, line);
+    chip.status = status_after(chip.status, note);
+    chip.accepted(0)
 }

@@ -1,7 +1,6 @@
 // Drawing a line: the pattern plane, then the sprites over it.
-ghost use Rattle.std.specs.Prelude.{◌≡◌, true, ◌<◌, length, get_or};
+ghost use Rattle.std.specs.Prelude.{◌≡◌, ◌<◌, length, get_or};
 ghost use Rattle.chip.specs.Lists.{tabulate};
-ghost use Rattle.chip.specs.State.{masked};
 ghost use Rattle.fetches.specs.Fetch.{value};
 ghost use Rattle.planes.specs.Pixel.{first_non_zero};
 ghost use Rattle.sprites.specs.Pixels.{visible, sprite_colours, numbered_colours, coincidence};
@@ -12,83 +11,65 @@ ghost use Rattle.scanline.specs.Notes.{note_by};
 ghost use Rattle.scanline.specs.Calls as calls;
 
 use crate::note::note_of;
-use chip::Mode;
+use chip::{Mode, Screen};
 
+// Text and blank lines have no sprites.
 pub fn has_sprites(mode: Mode) -> bool
     ensures { result ≡ has_sprites mode }
 {
-    match mode {
-        Mode::Blank => false,
-        Mode::GraphicsI => true,
-        Mode::GraphicsII => true,
-        Mode::Multicolor => true,
-        Mode::Text => false,
-    }
+    !matches!(mode, Mode::Blank | Mode::Text)
 }
 
 // The sprites of a mode that has them, over the line. Answers the note.
-fn draw_sprites(r: [u8; 8], vram: &[u8], l: u8, line: &mut [u8]) -> u8
-    requires { (masked r ≡ true) × (length vram.now ≡ 16384) × (length line.old ≡ 256) }
-    ensures value { result ≡ note_by (fifth_of (value (scan_of r l) vram.now).ended) (coincidence r (value (scan_of r l) vram.now).sprites) }
-    ensures line_after { line.new ≡ tabulate 256 (λ x. first_non_zero (sprite_colours r (value (scan_of r l) vram.now).sprites (visible x)) (get_or line.old x 0)) }
+fn draw_sprites(screen: Screen, l: u8, line: &mut [u8]) -> u8
+    requires { length line.old ≡ 256 }
+    ensures value { let f = value (scan_of screen.entry.registers l) screen.entry.vram.now in result ≡ note_by (fifth_of f.ended) (coincidence screen.entry.registers f.sprites) }
+    ensures line_after { let f = value (scan_of screen.entry.registers l) screen.entry.vram.now in line.new ≡ tabulate 256 (λ x. first_non_zero (sprite_colours screen.entry.registers f.sprites (visible x)) (get_or line.old x 0)) }
 {
-    let scan = sprites::scan_of(r, vram, l);
-    let ended = scan.ended;
-    let met = sprites::draw_sprites(line, r, scan);
-    note_of(ended, met)
+    let scan = sprites::scan_of(screen, l);
+    let met = sprites::draw_sprites(line, screen.registers, scan);
+    note_of(scan.ended, met)
 }
 
-// Draws line l, and answers its note.
-pub fn draw_row(r: [u8; 8], vram: &[u8], l: u8, line: &mut [u8]) -> u8
-    requires { (masked r ≡ true) × (length vram.now ≡ 16384) × (l < 192) × (length line.old ≡ 256) }
-    ensures value { result ≡ calls.note_at r vram.now l }
-    ensures line_after { line.new ≡ calls.colours r vram.now l }
+// Draws line l, and answers its note. The draws with origins, below, are functions of their own: with `origins: Option<&mut [u8]>` in
+// these, each clause on origins would have two cases, and each body two more matches.
+pub fn draw_row(screen: Screen, l: u8, line: &mut [u8]) -> u8
+    requires { (l < 192) × (length line.old ≡ 256) }
+    ensures value { result ≡ calls.note_at screen.entry.registers screen.entry.vram.now l }
+    ensures line_after { line.new ≡ calls.colours screen.entry.registers screen.entry.vram.now l }
 {
-    let mode = chip::mode_of(r);
-    planes::draw_plane(mode, r, vram, l as usize, line);
+    let mode = chip::mode_of(screen.registers);
+    planes::draw_plane(mode, screen, l as usize, line);
     if has_sprites(mode) {
-        return draw_sprites(r, vram, l, line);
+        return draw_sprites(screen, l, line);
     }
     32
 }
 
 // The sprites over the line, and their numbers over its origins. One scan is for both.
-fn draw_sprites_with_origins(
-    r: [u8; 8],
-    vram: &[u8],
-    l: u8,
-    line: &mut [u8],
-    origins: &mut [u8],
-) -> u8
-    requires { (masked r ≡ true) × (length vram.now ≡ 16384) × (length line.old ≡ 256) × (length origins.old ≡ 256) }
-    ensures value { result ≡ note_by (fifth_of (value (scan_of r l) vram.now).ended) (coincidence r (value (scan_of r l) vram.now).sprites) }
-    ensures line_after { line.new ≡ tabulate 256 (λ x. first_non_zero (sprite_colours r (value (scan_of r l) vram.now).sprites (visible x)) (get_or line.old x 0)) }
-    ensures origins_after { origins.new ≡ tabulate 256 (λ x. first_number (numbered_colours r (value (scan_of r l) vram.now).sprites (visible x)) (get_or origins.old x 0)) }
+fn draw_sprites_with_origins(screen: Screen, l: u8, line: &mut [u8], origins: &mut [u8]) -> u8
+    requires { (length line.old ≡ 256) × (length origins.old ≡ 256) }
+    ensures value { let f = value (scan_of screen.entry.registers l) screen.entry.vram.now in result ≡ note_by (fifth_of f.ended) (coincidence screen.entry.registers f.sprites) }
+    ensures line_after { let f = value (scan_of screen.entry.registers l) screen.entry.vram.now in line.new ≡ tabulate 256 (λ x. first_non_zero (sprite_colours screen.entry.registers f.sprites (visible x)) (get_or line.old x 0)) }
+    ensures origins_after { let f = value (scan_of screen.entry.registers l) screen.entry.vram.now in origins.new ≡ tabulate 256 (λ x. first_number (numbered_colours screen.entry.registers f.sprites (visible x)) (get_or origins.old x 0)) }
 {
-    let scan = sprites::scan_of(r, vram, l);
-    let ended = scan.ended;
-    sprites::draw_numbers(origins, r, scan);
-    let met = sprites::draw_sprites(line, r, scan);
-    note_of(ended, met)
+    let scan = sprites::scan_of(screen, l);
+    sprites::draw_numbers(origins, screen.registers, scan);
+    let met = sprites::draw_sprites(line, screen.registers, scan);
+    note_of(scan.ended, met)
 }
 
 // Draws line l with its origins, and answers its note.
-pub fn draw_row_with_origins(
-    r: [u8; 8],
-    vram: &[u8],
-    l: u8,
-    line: &mut [u8],
-    origins: &mut [u8],
-) -> u8
-    requires { (masked r ≡ true) × (length vram.now ≡ 16384) × (l < 192) × (length line.old ≡ 256) × (length origins.old ≡ 256) }
-    ensures value { result ≡ calls.note_at r vram.now l }
-    ensures line_after { line.new ≡ calls.colours r vram.now l }
-    ensures origins_after { origins.new ≡ calls.origins r vram.now l }
+pub fn draw_row_with_origins(screen: Screen, l: u8, line: &mut [u8], origins: &mut [u8]) -> u8
+    requires { (l < 192) × (length line.old ≡ 256) × (length origins.old ≡ 256) }
+    ensures value { result ≡ calls.note_at screen.entry.registers screen.entry.vram.now l }
+    ensures line_after { line.new ≡ calls.colours screen.entry.registers screen.entry.vram.now l }
+    ensures origins_after { origins.new ≡ calls.origins screen.entry.registers screen.entry.vram.now l }
 {
-    let mode = chip::mode_of(r);
-    planes::draw_plane_with_origins(mode, r, vram, l as usize, line, origins);
+    let mode = chip::mode_of(screen.registers);
+    planes::draw_plane_with_origins(mode, screen, l as usize, line, origins);
     if has_sprites(mode) {
-        return draw_sprites_with_origins(r, vram, l, line, origins);
+        return draw_sprites_with_origins(screen, l, line, origins);
     }
     32
 }

@@ -11,9 +11,8 @@ fn fifth_of(ended: Ended) -> u8
     ensures { result ≡ fifth_of ended }
 {
     match ended {
-        Ended::Terminator => 32,
         Ended::Fifth(n) => n,
-        Ended::All => 32,
+        Ended::Terminator | Ended::All => 32,
     }
 }
 
@@ -22,7 +21,7 @@ pub fn note_of(ended: Ended, met: bool) -> u8
     ensures { result ≡ note_by (fifth_of ended) met }
 {
     let fifth = fifth_of(ended);
-    if met { fifth + 64 } else { fifth + 0 }
+    if met { fifth + 64 } else { fifth }
 }
 
 fn latch(s: u8, n: u8) -> u8
@@ -50,6 +49,7 @@ fn with_coincidence(s: u8, note: u8) -> u8
 }
 
 // Status after a line with this note.
+#[tactic(auto, unfolding(crate::specs::Notes::status_after))]
 pub fn status_after(s: u8, note: u8) -> u8
     ensures { result ≡ status_after s note }
 {

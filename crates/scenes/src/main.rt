@@ -1,4 +1,5 @@
-// Draws chosen lines of built-in set-ups, and prints the runs of each and the status after it.
+// Draws chosen lines of built-in set-ups, and prints the runs of each and the status after it. (The set-ups are lists of calls, some alike
+// but for their numbers: a table of them with one loop would hide which registers and bytes a line is drawn from.)
 #![tactic(auto)]
 
 mod modes;

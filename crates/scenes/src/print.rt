@@ -3,7 +3,7 @@ ghost use Rattle.std.specs.Prelude.{◌≡◌};
 ghost use Rattle.scanline.specs.Colours.{draw_colours, draw_colours_line};
 ghost use Rattle.scenes.specs.Shown.{state_of};
 
-use chip::{Chip, Waiting};
+use chip::Chip;
 use std::io::Stdout;
 
 // A state with these registers and this status.
@@ -14,33 +14,18 @@ fn chip_of(r: [u8; 8], status: u8) -> Chip
         registers: r,
         address: 0,
         buffer: 0,
-        waiting: Waiting::Nothing,
-        status: status,
+        waiting: None,
+        status,
         redraw: false,
         lost: 0,
     }
 }
 
-// The byte at i, or 255, which is no colour.
-fn byte_at(s: &[u8], i: usize) -> u8 {
-    if i < s.len() { s[i] } else { 255 }
-}
-
-fn print_run(out: Stdout, count: usize, colour: u8) {
-    let _ = print!(out; " {count}*{colour}");
-}
-
 // The runs of equal neighbours: a space, the count, a star and the colour of each.
 fn print_runs(out: Stdout, line: &[u8]) {
-    let mut count = 0;
-    let mut x = 0;
-    while x < line.len() {
-        count += 1;
-        x += 1;
-        let colour = byte_at(line, x - 1);
-        if byte_at(line, x) != colour {
-            print_run(out, count, colour);
-            count = 0;
+    for run in line.chunk_by(|a, b| a == b) {
+        if let Some(colour) = run.first() {
+            let _ = print!(out; " {}*{colour}", run.len());
         }
     }
 }

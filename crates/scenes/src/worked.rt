@@ -146,10 +146,8 @@ fn show_bases(out: Stdout) {
 
 // Lines 0 to 7.
 fn show_eight(out: Stdout, label: &[u8], r: [u8; 8], vram: &[u8]) {
-    let mut number = 0;
-    while number < 8 {
+    for number in 0..8 {
         show(out, label, r, 0, vram, number);
-        number += 1;
     }
 }
 

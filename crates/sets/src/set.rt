@@ -1,10 +1,10 @@
 // The sets of all lines.
-ghost use Rattle.std.specs.Prelude.{◌≡◌, ℕ, ◌<◌, true, length, if◌then◌else◌, bit_or, slice_index};
+ghost use Rattle.std.specs.Prelude.{◌≡◌, ℕ, ◌<◌, length, if◌then◌else◌, bit_or, slice_index};
 ghost use Rattle.chip.specs.Bits as bits;
-ghost use Rattle.chip.specs.State.{masked};
 ghost use Rattle.sprites.specs.Shape as shape;
 ghost use Rattle.sets.specs.Sets.{Sets};
 
+use chip::Screen;
 use sprites::{attribute_address, is_terminator, side};
 
 // Puts a sprite's bit into every set of a run of lines.
@@ -12,10 +12,8 @@ fn add_run(part: &mut [u32], one: u32)
     ensures part_len_unchanged { length part.new ≡ length part.old }
     ensures by_index { (i : ℕ) → i < length part.old → slice_index part.new i ≡ bit_or (slice_index part.old i) one }
 {
-    let mut i = 0;
-    while i < part.len() {
-        part[i] |= one;
-        i += 1;
+    for x in part.iter_mut() {
+        *x |= one;
     }
 }
 
@@ -27,16 +25,12 @@ fn add_by_lines(sets: &mut [u32], r: [u8; 8], y: u8, n: u32)
     ensures by_index { (l : ℕ) → l < 192 → slice_index sets.new l ≡ (if shape.covers r l y then bits.set_bit n (slice_index sets.old l) else slice_index sets.old l) }
 {
     let one = 1u32 << n;
-    let height = side(r);
-    let mut l = std::num::wrapping_add_u8(y, 1);
-    let mut d = 0;
-    while d < height {
+    let first = y.wrapping_add(1);
+    for d in 0..side(r) {
+        let l = first.wrapping_add(d as u8);
         if l < 192 {
-            let at = l as usize;
-            sets[at] |= one;
+            sets[l as usize] |= one;
         }
-        l = std::num::wrapping_add_u8(l, 1);
-        d += 1;
     }
 }
 
@@ -47,7 +41,7 @@ fn add_sprite(sets: &mut [u32], r: [u8; 8], y: u8, n: u32)
     ensures sets_len { length sets.new ≡ 192 }
     ensures by_index { (l : ℕ) → l < 192 → slice_index sets.new l ≡ (if shape.covers r l y then bits.set_bit n (slice_index sets.old l) else slice_index sets.old l) }
 {
-    let first = std::num::wrapping_add_u8(y, 1) as usize;
+    let first = y.wrapping_add(1) as usize;
     let height = side(r);
     if first + height <= 192 {
         add_run(&mut sets[first..first + height], 1u32 << n);
@@ -56,19 +50,17 @@ fn add_sprite(sets: &mut [u32], r: [u8; 8], y: u8, n: u32)
     }
 }
 
-pub fn sets_of(r: [u8; 8], vram: &[u8]) -> [u32; 192]
-    requires { (masked r ≡ true) × (length vram.now ≡ 16384) }
-    ensures { Sets r vram.now result }
+pub fn sets_of(screen: Screen) -> [u32; 192]
+    ensures { Sets screen.entry.registers screen.entry.vram.now result }
 {
+    let r = screen.registers;
     let mut sets = [0u32; 192];
-    let mut n = 0;
-    while n < 32 {
-        let y = vram[attribute_address(r, n, 0)];
+    for n in 0..32 {
+        let y = screen.vram[attribute_address(r, n, 0)];
         if is_terminator(y) {
             return sets;
         }
         add_sprite(&mut sets, r, y, n as u32);
-        n += 1;
     }
     sets
 }

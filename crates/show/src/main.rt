@@ -2,11 +2,12 @@
 #![tactic(auto)]
 
 fn main(rt: HostRuntime) {
-    let mut file = [0u8; 16407];
+    let mut file = input::buffer();
     let count = input::read(&mut rt.stdin(), &mut file);
     let mut vram = [0u8; 16384];
     let mut walk = text::start(&file[..count], &mut vram);
     let mut out = [0u8; 2048];
+    // `picture` has the same loop: a trait over the two walks, with the laws that it ends by, is longer than the loop.
     loop {
         let piece = text::step(walk, &vram, &mut out);
         let written = piece.written;
@@ -14,7 +15,6 @@ fn main(rt: HostRuntime) {
         if piece.last {
             return;
         }
-        let next = piece.walk;
-        walk = next;
+        walk = piece.walk;
     }
 }

@@ -1,10 +1,9 @@
 -- Writing and reading a snapshot: the tests that each makes, its answer, and what it leaves in lent slices, accepted or refused.
 use Rattle.std.specs.Prelude.{ℕ, true, List, [], ◌∷◌}
 use Rattle.chip.specs.State.{with_redraw, with_lost}
-use Rattle.chip.specs.Refusals.{Test, vram_test, state_test, refusal_of, if_accepted, answered}
+use Rattle.chip.specs.Refusals.{Outcome, Test, vram_test, state_test, refusal_of, if_accepted, answered}
 use Rattle.chip.specs.declared.state.Chip.{Chip}
 use Rattle.chip.specs.declared.refusal.Answer.{Answer}
-use Rattle.chip.specs.declared.refusal.Refusal.{Refusal}
 use Rattle.snapshot.specs.Format.{snapshot_of}
 use Rattle.snapshot.specs.Tests.{vram_bytes, held_state, size_test, trailer_test, sum_test, contents_test}
 
@@ -15,7 +14,7 @@ output_tests out = size_test out ∷ []
 abbrev pub write_tests : Chip → List ℕ → List ℕ → List Test
 write_tests c vram out = vram_test vram ∷ state_test c ∷ output_tests out
 
-abbrev pub write_refusal : Chip → List ℕ → List ℕ → Refusal
+abbrev pub write_refusal : Chip → List ℕ → List ℕ → Outcome
 write_refusal c vram out = refusal_of (write_tests c vram out)
 
 -- Writing hands the state back as it was.
@@ -33,7 +32,7 @@ file_tests s = size_test s ∷ trailer_test s ∷ sum_test s ∷ contents_test s
 abbrev pub read_tests : List ℕ → List ℕ → List Test
 read_tests vram s = vram_test vram ∷ file_tests s
 
-abbrev pub read_refusal : List ℕ → List ℕ → Refusal
+abbrev pub read_refusal : List ℕ → List ℕ → Outcome
 read_refusal vram s = refusal_of (read_tests vram s)
 
 abbrev pub read_snapshot : Chip → List ℕ → List ℕ → Answer

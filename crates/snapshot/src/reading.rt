@@ -27,6 +27,6 @@ pub fn read(chip: Chip, vram: &mut [u8], snapshot: &[u8]) -> Answer
     if !next.is_well_formed() {
         return chip.refused(Refusal::IllFormed);
     }
-    chip::copy(vram, vram_bytes(snapshot));
+    vram.copy_from_slice(vram_bytes(snapshot));
     next.accepted(0)
 }

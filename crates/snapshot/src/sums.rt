@@ -6,11 +6,6 @@ ghost use Rattle.snapshot.specs.Format as format;
 pub fn checksum(s: &[u8]) -> u16
     ensures { result ≡ format.checksum s.now }
 {
-    let mut total = 0u16;
-    let mut i = 0;
-    while i < s.len() {
-        total = std::num::wrapping_add_u16(total, s[i] as u16);
-        i += 1;
-    }
-    total
+    s.iter()
+        .fold(0u16, |total, b| total.wrapping_add(u16::from(*b)))
 }

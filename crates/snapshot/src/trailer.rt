@@ -1,19 +1,15 @@
 // The trailer: the last eight bytes, from which everything else is found.
 ghost use Rattle.std.specs.Prelude.{◌≡◌, ◌≤◌, length};
-ghost use Rattle.snapshot.specs.Format.{pointers};
 ghost use Rattle.snapshot.specs.Tests.{points_back, sum_right};
 
 use crate::sums::checksum;
 use chip::low_first_at;
 
 // The signature, and the distances back to the state (14) and to VRAM (16,398), low byte first.
-pub fn pointer_bytes() -> [u8; 6]
-    ensures { result ≡ pointers }
-{
-    [0x56, 0x31, 0x0E, 0x00, 0x0E, 0x40]
-}
+pub const POINTERS: [u8; 6] = [0x56, 0x31, 0x0E, 0x00, 0x0E, 0x40];
 
 // Whether the signature and both distances are right.
+#[tactic(auto, unfolding(crate::specs::Tests::points_back))]
 pub fn points_back(s: &[u8]) -> bool
     requires { 8 ≤ length s.now }
     ensures { result ≡ points_back s.now }
@@ -26,6 +22,7 @@ pub fn points_back(s: &[u8]) -> bool
 }
 
 // Whether the sum of all bytes before it is the one that stands there.
+#[tactic(auto, unfolding(crate::specs::Tests::sum_right))]
 pub fn sum_is_right(s: &[u8]) -> bool
     requires { 8 ≤ length s.now }
     ensures { result ≡ sum_right s.now }

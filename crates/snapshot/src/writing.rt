@@ -4,8 +4,8 @@ ghost use Rattle.snapshot.specs.Format.{snapshot_of};
 ghost use Rattle.snapshot.specs.Calls.{write_snapshot, written};
 
 use crate::sums::checksum;
-use crate::trailer::pointer_bytes;
-use chip::{Answer, Chip, Refusal, low_first, put};
+use crate::trailer::POINTERS;
+use chip::{Answer, Chip, Refusal, put};
 
 // Fills the slice, each part at its distance before the trailer; the sum comes last, over all that stands before it.
 fn fill(chip: Chip, vram: &[u8], out: &mut [u8])
@@ -14,12 +14,10 @@ fn fill(chip: Chip, vram: &[u8], out: &mut [u8])
 {
     let trailer = out.len() - 8;
     put(out, trailer - 16398, vram);
-    let state = chip.encode();
-    put(out, trailer - 14, &state);
-    let pointers = pointer_bytes();
-    put(out, trailer, &pointers);
+    put(out, trailer - 14, &chip.encode());
+    put(out, trailer, &POINTERS);
     let field = trailer + 6;
-    let sum = low_first(checksum(&out[..field]));
+    let sum = checksum(&out[..field]).to_le_bytes();
     put(out, field, &sum);
 }
 

@@ -1,6 +1,5 @@
 // The sprites that a scan found, at one column of the screen.
-ghost use Rattle.std.specs.Prelude.{◌≡◌, ◌<◌, true, length, take, if◌then◌else◌};
-ghost use Rattle.chip.specs.State.{masked};
+ghost use Rattle.std.specs.Prelude.{◌≡◌, ◌<◌, take, if◌then◌else◌};
 ghost use Rattle.fetches.specs.Fetch.{value};
 ghost use Rattle.planes.specs.Origin.{frontmost};
 ghost use Rattle.sprites.specs.Pixels.{visible, hits, numbered_colours};
@@ -11,6 +10,7 @@ use crate::columns::bit_at;
 use crate::scan::{Scan, scan_of};
 use crate::shape::{is_terminator, side};
 use crate::sprite::{Sprite, attribute_address};
+use chip::Screen;
 use planes::{Origin, Pixel, choose, in_front};
 
 // A sprite's colour at column c, counted from 32 left of the screen, and 0 where it has no set bit.
@@ -18,10 +18,7 @@ fn colour_at(r: [u8; 8], s: Sprite, c: usize) -> u8
     ensures { result ≡ (if hits r s c then s.colour else 0) }
 {
     let first = s.first as usize;
-    if c < first {
-        return 0;
-    }
-    if first + side(r) <= c {
+    if c < first || first + side(r) <= c {
         return 0;
     }
     choose(bit_at(r, s, c), s.colour, 0)
@@ -33,27 +30,22 @@ fn sprites_at(r: [u8; 8], scan: Scan, x: usize, behind: Pixel) -> Pixel
     requires { Held r scan × (x < 256) }
     ensures { result ≡ frontmost (numbered_colours r (take scan.drawn scan.sprites) (visible x)) behind }
 {
-    let sprites = scan.sprites;
     let mut pixel = behind;
-    let mut k = scan.drawn;
-    while 0 < k {
-        k -= 1;
-        let s = sprites[k];
-        let colour = colour_at(r, s, x + 32);
+    for s in scan.sprites[..scan.drawn].iter().rev() {
+        let colour = colour_at(r, *s, x + 32);
         pixel = in_front(colour, Origin::Sprite(s.number), pixel);
     }
     pixel
 }
 
 // The same at line l, with the sprites read from VRAM. A picture without sprites has the terminator first, and needs no scan.
-pub fn sprites_over(r: [u8; 8], vram: &[u8], l: u8, x: u8, behind: Pixel) -> Pixel
-    requires { (masked r ≡ true) × (length vram.now ≡ 16384) }
-    ensures { result ≡ frontmost (numbered_colours r (value (scan_of r l) vram.now).sprites (visible x)) behind }
+pub fn sprites_over(screen: Screen, l: u8, x: u8, behind: Pixel) -> Pixel
+    ensures { result ≡ frontmost (numbered_colours screen.entry.registers (value (scan_of screen.entry.registers l) screen.entry.vram.now).sprites (visible x)) behind }
 {
-    let y = vram[attribute_address(r, 0, 0)];
+    let y = screen.vram[attribute_address(screen.registers, 0, 0)];
     if is_terminator(y) {
         return behind;
     }
-    let scan = scan_of(r, vram, l);
-    sprites_at(r, scan, x as usize, behind)
+    let scan = scan_of(screen, l);
+    sprites_at(screen.registers, scan, x as usize, behind)
 }

@@ -10,16 +10,14 @@ use crate::sprite::Sprite;
 pub fn first_visible(s: Sprite) -> usize
     ensures { result ≡ max s.first 32 }
 {
-    let first = s.first as usize;
-    if first < 32 { 32 } else { first }
+    (s.first as usize).max(32)
 }
 
 // One past the last that can be.
 pub fn end_visible(r: [u8; 8], s: Sprite) -> usize
     ensures { result ≡ min (s.first + shape.side r) 288 }
 {
-    let end = s.first as usize + side(r);
-    if end < 288 { end } else { 288 }
+    (s.first as usize + side(r)).min(288)
 }
 
 // Whether the sprite's bit at column c, one of its own, is set.

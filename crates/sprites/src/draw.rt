@@ -17,31 +17,22 @@ pub fn draw_sprites(line: &mut [u8], r: [u8; 8], scan: Scan) -> bool
     ensures line_after { line.new ≡ tabulate 256 (λ x. pixel.first_non_zero (sprite_colours r (take scan.drawn scan.sprites) (visible x)) (slice_index line.old x)) }
     ensures value { result ≡ coincidence r (take scan.drawn scan.sprites) }
 {
-    let sprites = scan.sprites;
     let mut met = false;
-    let mut k = scan.drawn;
-    while 0 < k {
-        let next = k;
-        k -= 1;
-        let s = sprites[k];
-        let colour = s.colour;
-        met = meets_one(r, s, scan, next) | met;
-        paint_sprite(line, r, s, colour);
+    for k in (0..scan.drawn).rev() {
+        let s = scan.sprites[k];
+        met |= meets_one(r, s, scan, k + 1);
+        paint_sprite(line, r, s, s.colour);
     }
     met
 }
 
-// Paints their numbers over the origins of a line.
+// Paints their numbers over the origins of a line. Not one function with `draw_sprites`: the two loops share one call, and a closure
+// for the value would need a contract that says both what colours and what numbers do.
 pub fn draw_numbers(origins: &mut [u8], r: [u8; 8], scan: Scan)
     requires { (length origins.old ≡ 256) × Held r scan }
     ensures { origins.new ≡ tabulate 256 (λ x. first_number (numbered_colours r (take scan.drawn scan.sprites) (visible x)) (slice_index origins.old x)) }
 {
-    let sprites = scan.sprites;
-    let mut k = scan.drawn;
-    while 0 < k {
-        k -= 1;
-        let s = sprites[k];
-        let number = s.number;
-        paint_sprite(origins, r, s, number);
+    for s in scan.sprites[..scan.drawn].iter().rev() {
+        paint_sprite(origins, r, *s, s.number);
     }
 }

@@ -17,4 +17,4 @@ pub use due::scan_dirty;
 pub use paint::paint_sprite;
 pub use scan::{Ended, Scan, scan_of};
 pub use shape::{is_magnified, is_terminator, side};
-pub use sprite::{Sprite, attribute_address, sprite_of};
+pub use sprite::{NO_SPRITE, Sprite, attribute_address, sprite_of};

@@ -1,6 +1,6 @@
 // Whether sprites have set bits at the same column. Rows of bits are compared as numbers: where they meet does not matter, and
 // columns beside the screen count like those on it.
-ghost use Rattle.std.specs.Prelude.{◌≡◌, ◌+◌, ◌*◌, ◌≤◌, max, ◌&&◌, take, drop};
+ghost use Rattle.std.specs.Prelude.{◌≡◌, ◌+◌, ◌*◌, ◌≤◌, ◌&&◌, take, drop};
 ghost use Rattle.chip.specs.Ranges.{any_below};
 ghost use Rattle.sprites.specs.Pixels.{hits, any_hits, reach};
 ghost use Rattle.sprites.specs.Rows.{RowFrom};
@@ -10,13 +10,6 @@ ghost use Rattle.sprites.specs.Shape.{bit_width};
 use crate::scan::Scan;
 use crate::shape::{is_magnified, scaled};
 use crate::sprite::Sprite;
-
-// The one of two columns that is further right.
-fn further_right(a: u16, b: u16) -> u16
-    ensures { result ≡ max a b }
-{
-    if a < b { b } else { a }
-}
 
 // The row from column c on, which is not left of the sprite.
 fn row_from(r: [u8; 8], s: Sprite, c: u16) -> u16
@@ -41,7 +34,7 @@ fn two_meet(r: [u8; 8], a: Sprite, b: Sprite) -> bool
     requires { AsRead r a × AsRead r b }
     ensures { result ≡ any_below reach (λ c. hits r a c && hits r b c) }
 {
-    let c = further_right(a.first, b.first);
+    let c = a.first.max(b.first);
     meet_from(r, a, b, c) | meet_from(r, a, b, c + 1)
 }
 
@@ -50,13 +43,7 @@ pub fn meets_one(r: [u8; 8], s: Sprite, scan: Scan, k: usize) -> bool
     requires { AsRead r s × Held r scan × (k ≤ scan.drawn) }
     ensures { result ≡ any_below reach (λ c. hits r s c && any_hits r (drop k (take scan.drawn scan.sprites)) c) }
 {
-    let sprites = scan.sprites;
-    let mut met = false;
-    let mut j = scan.drawn;
-    while k < j {
-        j -= 1;
-        let t = sprites[j];
-        met = two_meet(r, s, t) | met;
-    }
-    met
+    scan.sprites[k..scan.drawn]
+        .iter()
+        .any(|t| two_meet(r, s, *t))
 }

@@ -12,12 +12,9 @@ fn paint_bits(line: &mut [u8], r: [u8; 8], s: Sprite, value: u8)
     requires { length line.old ≡ 256 }
     ensures { line.new ≡ tabulate 256 (λ x. (if hits r s (visible x) then value else slice_index line.old x)) }
 {
-    let end = end_visible(r, s);
-    let mut c = first_visible(s);
-    while c < end {
+    for c in first_visible(s)..end_visible(r, s) {
         let x = c - 32;
         line[x] = choose(bit_at(r, s, c), value, line[x]);
-        c += 1;
     }
 }
 

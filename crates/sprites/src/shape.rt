@@ -21,12 +21,8 @@ pub fn is_magnified(r: [u8; 8]) -> bool
 pub fn side(r: [u8; 8]) -> usize
     ensures { result ≡ shape.side r }
 {
-    let large = is_large(r);
-    let magnified = is_magnified(r);
-    if large {
-        return if magnified { 32 } else { 16 };
-    }
-    if magnified { 16 } else { 8 }
+    let bits = if is_large(r) { 16 } else { 8 };
+    if is_magnified(r) { bits * 2 } else { bits }
 }
 
 // A count of lines or columns in pattern rows or bits. 16 bits wide, as a row of bits is.
@@ -40,7 +36,7 @@ pub fn scaled(magnified: bool, d: u16) -> u16
 pub fn row_offset(l: u8, y: u8) -> u8
     ensures { result ≡ shape.row_offset l y }
 {
-    std::num::wrapping_sub_u8(std::num::wrapping_sub_u8(l, y), 1)
+    l.wrapping_sub(y).wrapping_sub(1)
 }
 
 // Whether a sprite at y ends the scan.

@@ -1,13 +1,14 @@
 // A drawn sprite: what is read of it.
-ghost use Rattle.std.specs.Prelude.{◌≡◌, ◌-◌, ◌%◌, ◌<◌, true, length, if◌then◌else◌};
+ghost use Rattle.std.specs.Prelude.{◌≡◌, ◌-◌, ◌%◌, ◌<◌, true, if◌then◌else◌};
 ghost use Rattle.chip.specs.Modes.{large_sprites};
 ghost use Rattle.chip.specs.State.{masked};
 ghost use Rattle.fetches.specs.Fetch.{value};
 ghost use Rattle.sprites.specs.Shape.{covers};
 ghost use Rattle.sprites.specs.Scan as scan;
+ghost use Rattle.sprites.specs.Scanned.{AsRead};
 
 use crate::shape::{is_large, is_magnified, row_offset, scaled};
-use chip::bit;
+use chip::{Screen, bit};
 
 #[derive(Clone, Copy)]
 pub struct Sprite {
@@ -19,6 +20,14 @@ pub struct Sprite {
     // A row of the pattern, its left half above its right half.
     pub bits: u16,
 }
+
+// What stands where a scan found no sprite.
+pub const NO_SPRITE: Sprite = Sprite {
+    first: 0,
+    colour: 0,
+    number: 0,
+    bits: 0,
+};
 
 // Attribute k of sprite n.
 pub fn attribute_address(r: [u8; 8], n: usize, k: usize) -> usize
@@ -55,28 +64,27 @@ fn sprite_by(n: usize, x: u8, c: u8, left: u8, right: u8) -> Sprite
     requires { n < 32 }
     ensures { result ≡ scan.sprite_by n x c left right }
 {
-    let first = first_column(x, c);
     Sprite {
-        first: first,
+        first: first_column(x, c),
         colour: c % 16,
         number: n as u8,
-        bits: left as u16 * 256 + right as u16,
+        bits: u16::from_be_bytes([left, right]),
     }
 }
 
 // What is read of sprite n, which covers line l.
-pub fn sprite_of(r: [u8; 8], vram: &[u8], l: u8, y: u8, n: usize) -> Sprite
-    requires { (masked r ≡ true) × (length vram.now ≡ 16384) × (covers r l y ≡ true) × (n < 32) }
-    ensures { result ≡ value (scan.sprite_of r l n y) vram.now }
+pub fn sprite_of(screen: Screen, l: u8, y: u8, n: usize) -> Sprite
+    requires { (covers screen.registers l y ≡ true) × (n < 32) }
+    ensures value { result ≡ value (scan.sprite_of screen.entry.registers l n y) screen.entry.vram.now }
+    ensures as_read { AsRead screen.entry.registers result }
 {
+    let r = screen.registers;
+    let vram = screen.vram;
     let x = vram[attribute_address(r, n, 1)];
     let name = vram[attribute_address(r, n, 2)];
     let c = vram[attribute_address(r, n, 3)];
     let at = sprite_pattern_address(r, l, y, name);
     let left = vram[at];
-    if is_large(r) {
-        sprite_by(n, x, c, left, vram[at + 16])
-    } else {
-        sprite_by(n, x, c, left, 0)
-    }
+    let right = if is_large(r) { vram[at + 16] } else { 0 };
+    sprite_by(n, x, c, left, right)
 }

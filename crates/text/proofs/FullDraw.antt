@@ -11,9 +11,9 @@ use mathlib.Core.List.{List, ◌∷◌, ◌++◌}
 use lib.ListN.{length, replicate, length-replicate}
 use Rattle.chip.specs.State.{well_formed}
 use Rattle.chip.specs.declared.state.Chip.{Chip}
-use Rattle.chip.specs.declared.refusal.Refusal.TheVariants.{Accepted}
+use Rattle.std.specs.Prelude.{Ok}
 use Rattle.chip.proofs.Laws.Lists.{length-tabulate}
-use Rattle.chip.proofs.Laws.Refusals.{the-new}
+use Rattle.chip.proofs.Laws.Refusals.{the-new, value-given}
 use Rattle.scanline.specs.Calls.{colours}
 use Rattle.frame.specs.Lines.{line_at}
 use Rattle.frame.specs.Draw.{frame_of, notes_of, drawn_state}
@@ -39,7 +39,8 @@ pub shows-full-draw : (c : Chip) → well_formed c ≡ true
 unfolding show_text
 shows-full-draw c ok vram full map frame notes m f n =
     let zeros : length (replicate {A = ℕ} 256 0) ≡ 256 = length-replicate {A = ℕ} 256 0 in
-    let accepted : draw_refusal c vram map frame notes ≡ Accepted = (full-draw-is-line-draws c ok vram full map frame notes m f n (record { line = λ l. replicate 256 0; codes = λ l. replicate 256 0 }) (λ l. (zeros, zeros))).0 in
+    let agree = full-draw-is-line-draws c ok vram full map frame notes m f n (record { line = λ l. replicate 256 0; codes = λ l. replicate 256 0 }) (λ l. (zeros, zeros)) in
+    let accepted : draw_refusal c vram map frame notes ≡ Ok tt = value-given _ 0 agree.0 in
     let drawn : (l : ℕ) → l < 192 → colours c.registers vram l ≡ line_at (full_draw_frame c vram map frame notes) l =
     λ l h. sym (ap (λ (t : List ℕ). line_at t l) (the-new accepted (frame_of c.registers vram) frame) ∙ line-of-end (colours c.registers vram) 192 (λ k _. length-tabulate 256 _) l h) in
     ap₂ ◌++◌

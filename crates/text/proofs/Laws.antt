@@ -3,7 +3,6 @@ pub mod Put
 pub mod Numbers
 pub mod Runs
 pub mod Going
-pub mod Calls
 pub mod Pieces
 pub mod Steps
 pub mod Ranges

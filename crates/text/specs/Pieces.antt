@@ -1,5 +1,6 @@
 -- Output that is written piece by piece.
-use Rattle.std.specs.Prelude.{ℕ, zero, suc, Bool, true, false, cond, List, [], ◌++◌}
+use Rattle.std.specs.Prelude.{ℕ, zero, suc, Bool, true, false, cond, List, [], ◌++◌, length}
+use Rattle.text.specs.declared.pieces.Piece.{Piece}
 
 -- What a step does: the bytes that it writes, the walk behind them, and whether they are the last.
 pub record Step (W : Type 0) : Type 0 where
@@ -13,6 +14,14 @@ pub record Output : Type 0 where
   pub whole : Bool
 
 module _ {W : Type 0} where
+  -- What a call answers of a step.
+  abbrev pub piece_of : Step W → Piece W
+  piece_of s = record { walk = s.walk; written = length s.bytes; last = s.last }
+
+  -- Nothing is written, and nothing follows.
+  abbrev pub writes_nothing : W → Step W
+  writes_nothing w = record { bytes = []; walk = w; last = true }
+
   -- A step's piece, and what is written behind it: nothing, if the piece is the last.
   abbrev pub ahead : Step W → Output → Output
   ahead s rest = record { bytes = s.bytes ++ cond s.last [] rest.bytes; whole = cond s.last true rest.whole }

@@ -1,7 +1,7 @@
 -- The output as the calls `start` and `step` write it.
-use Rattle.std.specs.Prelude.{ℕ, ◌+◌, ◌-◌, Bool, true, false, cond, ◌&&◌, List, [], eqb, leb, ltb, length, replicate}
+use Rattle.std.specs.Prelude.{ℕ, ◌+◌, ◌-◌, Bool, true, false, cond, ◌&&◌, List, [], eqb, leb, ltb, length, replicate, Result, Ok, Err}
 use Rattle.chip.specs.State.{vram_size, well_formed, power_up_state}
-use Rattle.chip.specs.Refusals.{number_of, if_accepted}
+use Rattle.chip.specs.Refusals.{refusal_number}
 use Rattle.chip.specs.declared.state.Chip.{Chip}
 use Rattle.chip.specs.declared.refusal.Refusal.{Refusal}
 use Rattle.snapshot.specs.Calls.{read_refusal, read_snapshot}
@@ -10,15 +10,16 @@ use Rattle.frame.specs.Lines.{line_count}
 use Rattle.frame.specs.Draw.{notes_of, drawn_state}
 use Rattle.text.specs.Runs.{same}
 use Rattle.text.specs.Lines.{refused_text, status_text, range_text}
-use Rattle.text.specs.Pieces.{Step}
+use Rattle.text.specs.Pieces.{Step, writes_nothing}
 use Rattle.text.specs.declared.walk.Next.{Next}
 use Rattle.text.specs.declared.walk.Next.TheVariants.{Refused, Status, Line, End}
 use Rattle.text.specs.declared.walk.Walk.{Walk}
-use Rattle.text.specs.declared.walk.Piece.{Piece}
 
 -- What is first, by how reading the file was answered.
-abbrev pub first_next : Refusal → Next
-first_next r = if_accepted r Status (Refused (number_of r))
+module _ {A : Type 0} where
+  abbrev pub first_next : Result A Refusal → Next
+  first_next (Ok x) = Status
+  first_next (Err r) = Refused r
 
 -- The file is read from the power-up state into VRAM. (What VRAM then holds: see `read_vram`.)
 abbrev pub start_walk : List ℕ → List ℕ → Walk
@@ -31,13 +32,9 @@ start_walk vram file =
       colours = replicate 256 0;
     }
 
--- Nothing is written, and nothing follows.
-abbrev pub writes_nothing : Walk → Step Walk
-writes_nothing w = record { bytes = []; walk = w; last = true }
-
 -- The line of a refusal.
-abbrev pub refused_step : Walk → ℕ → Step Walk
-refused_step w n = record { bytes = refused_text n; walk = w; last = true }
+abbrev pub refused_step : Walk → Refusal → Step Walk
+refused_step w r = record { bytes = refused_text (refusal_number r); walk = w; last = true }
 
 -- The walk with another piece next, and another range so far.
 abbrev pub going : Walk → Next → ℕ → ℕ → List ℕ → Walk
@@ -78,7 +75,7 @@ drawable c vram = eqb (length vram) vram_size && well_formed c
 
 -- Where a line cannot be drawn, nothing is written, and nothing follows.
 unfoldable pub step_at : List ℕ → Next → Walk → Step Walk
-step_at vram (Refused n) w = refused_step w n
+step_at vram (Refused r) w = refused_step w r
 step_at vram Status w = cond (drawable w.chip vram) (status_step vram w) (writes_nothing w)
 step_at vram (Line l) w = cond (leb l 191 && drawable w.chip vram) (line_step vram w l) (writes_nothing w)
 step_at vram End w = end_step w
@@ -86,13 +83,9 @@ step_at vram End w = end_step w
 unfoldable pub step_of : List ℕ → Walk → Step Walk
 step_of vram w = step_at vram w.next w
 
--- What the call answers of a step.
-abbrev pub piece_of : Step Walk → Piece
-piece_of s = record { walk = s.walk; written = length s.bytes; last = s.last }
-
 -- How many steps are left at most.
 abbrev pub left_from : Next → ℕ
-left_from (Refused n) = 1
+left_from (Refused r) = 1
 left_from Status = line_count + 1
 left_from (Line l) = line_count + 1 - l
 left_from End = 1

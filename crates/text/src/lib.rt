@@ -2,6 +2,7 @@
 #![tactic(auto)]
 
 mod numbers;
+mod pieces;
 mod range;
 mod refusal;
 mod runs;
@@ -9,5 +10,6 @@ mod status;
 mod walk;
 
 pub use numbers::{put_decimal, put_long_decimal};
+pub use pieces::Piece;
 pub use refusal::{put_refusal, refusal_line};
-pub use walk::{Piece, Walk, start, step};
+pub use walk::{Walk, start, step};

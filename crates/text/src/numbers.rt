@@ -1,4 +1,5 @@
-// Numbers put into a slice from a place on, as characters. Each answers the place behind them.
+// Numbers put into a slice from a place on, as characters. Each answers the place behind them. The digits are made here, since
+// `write!` states which bytes it writes only for a `String`, which needs a heap.
 ghost use Rattle.std.specs.Prelude.{◌≡◌, ◌+◌, ◌≤◌, ◌<◌, length};
 ghost use Rattle.chip.specs.Lists.{put_at};
 ghost use Rattle.text.specs.Numbers.{decimal, three_digits, long_decimal, hex_digit, two_hex};
@@ -6,18 +7,17 @@ ghost use Rattle.text.specs.Numbers.{decimal, three_digits, long_decimal, hex_di
 use chip::put;
 
 // The decimal digits of a number below 1,000.
+#[tactic(auto, unfolding(crate::specs::Numbers::decimal))]
 pub fn put_decimal(out: &mut [u8], at: usize, n: usize) -> usize
     requires { (n < 1000) × (at + 3 ≤ length out.old) }
     ensures value { result ≡ at + length (decimal n) }
     ensures out_after { out.new ≡ put_at at (decimal n) out.old }
 {
     if n < 10 {
-        let one = [48 + n as u8];
-        return put(out, at, &one);
+        return put(out, at, &[b'0' + n as u8]);
     }
     if n < 100 {
-        let two = [48 + (n / 10) as u8, 48 + (n % 10) as u8];
-        return put(out, at, &two);
+        return put(out, at, &[b'0' + (n / 10) as u8, b'0' + (n % 10) as u8]);
     }
     put_three_digits(out, at, n)
 }
@@ -29,14 +29,15 @@ fn put_three_digits(out: &mut [u8], at: usize, n: usize) -> usize
     ensures out_after { out.new ≡ put_at at (three_digits n) out.old }
 {
     let three = [
-        48 + (n / 100) as u8,
-        48 + (n / 10 % 10) as u8,
-        48 + (n % 10) as u8,
+        b'0' + (n / 100) as u8,
+        b'0' + (n / 10 % 10) as u8,
+        b'0' + (n % 10) as u8,
     ];
     put(out, at, &three)
 }
 
 // The decimal digits of a number below 1,000,000.
+#[tactic(auto, using(crate::proofs::Laws::Numbers::lengths), unfolding(crate::specs::Numbers::long_decimal))]
 pub fn put_long_decimal(out: &mut [u8], at: usize, n: usize) -> usize
     requires { (n < 1000000) × (at + 6 ≤ length out.old) }
     ensures value { result ≡ at + length (long_decimal n) }
@@ -53,7 +54,7 @@ fn hex_digit(d: u8) -> u8
     requires { d < 16 }
     ensures { result ≡ hex_digit d }
 {
-    if d < 10 { 48 + d } else { 55 + d }
+    if d < 10 { b'0' + d } else { b'A' + (d - 10) }
 }
 
 // The two hex digits of a byte, in upper case.
@@ -62,6 +63,5 @@ pub fn put_hex(out: &mut [u8], at: usize, b: u8) -> usize
     ensures value { result ≡ at + 2 }
     ensures out_after { out.new ≡ put_at at (two_hex b) out.old }
 {
-    let two = [hex_digit(b / 16), hex_digit(b % 16)];
-    put(out, at, &two)
+    put(out, at, &[hex_digit(b / 16), hex_digit(b % 16)])
 }

@@ -9,35 +9,29 @@ use crate::runs::put_runs;
 use chip::put;
 
 // Whether two lines have the same colours.
+#[tactic(auto, using(crate::proofs::Laws::Runs::pointwise_is_same))]
 pub fn same(a: &[u8], b: &[u8]) -> bool
     requires { length a.now ≡ length b.now }
     ensures { result ≡ join.same a.now b.now }
 {
-    let mut i = 0;
-    while i < a.len() {
-        if a[i] != b[i] {
-            return false;
-        }
-        i += 1;
-    }
-    true
+    a == b
 }
 
 // `lines A-B`
+#[tactic(auto, using(crate::proofs::Laws::Numbers::lengths), unfolding(crate::specs::Lines::bounds_text))]
 fn put_bounds(out: &mut [u8], first: u8, last: u8) -> usize
     requires { 13 ≤ length out.old }
     ensures value { result ≡ length (bounds_text first last) }
     ensures out_after { out.new ≡ put_at 0 (bounds_text first last) out.old }
 {
-    let word = *b"lines ";
-    let a = put(out, 0, &word);
+    let a = put(out, 0, b"lines ");
     let dash = put_decimal(out, a, first as usize);
-    let sign = [b'-'];
-    let b = put(out, dash, &sign);
+    let b = put(out, dash, b"-");
     put_decimal(out, b, last as usize)
 }
 
 // The text of lines first to last, each with these colours.
+#[tactic(auto, using(crate::proofs::Laws::Numbers::lengths, crate::proofs::Laws::Runs::length_runs), unfolding(crate::specs::Lines::range_text))]
 pub fn put_range(out: &mut [u8], first: u8, last: u8, range: &[u8]) -> usize
     requires { (length range.now ≡ 256) × (2048 ≤ length out.old) }
     ensures value { result ≡ length (range_text first last range.now) }
@@ -45,6 +39,5 @@ pub fn put_range(out: &mut [u8], first: u8, last: u8, range: &[u8]) -> usize
 {
     let bounds = put_bounds(out, first, last);
     let runs = put_runs(out, bounds, range);
-    let newline = [b'\n'];
-    put(out, runs, &newline)
+    put(out, runs, b"\n")
 }

@@ -7,16 +7,15 @@ ghost use Rattle.text.specs.Lines.{run_text, runs_text};
 use crate::numbers::put_decimal;
 use chip::put;
 
+#[tactic(auto, using(crate::proofs::Laws::Numbers::lengths), unfolding(crate::specs::Lines::run_text))]
 fn put_run(out: &mut [u8], at: usize, count: usize, colour: u8) -> usize
     requires { (count < 1000) × (at + 8 ≤ length out.old) }
     ensures value { result ≡ at + length (run_text count colour) }
     ensures out_after { out.new ≡ put_at at (run_text count colour) out.old }
 {
-    let space = [b' '];
-    let counted = put(out, at, &space);
+    let counted = put(out, at, b" ");
     let star = put_decimal(out, counted, count);
-    let sign = [b'*'];
-    let coloured = put(out, star, &sign);
+    let coloured = put(out, star, b"*");
     put_decimal(out, coloured, colour as usize)
 }
 
@@ -29,17 +28,14 @@ pub fn put_runs(out: &mut [u8], at: usize, line: &[u8]) -> usize
     let mut end = at;
     let mut colour = line[0];
     let mut count = 1;
-    let mut i = 1;
-    while i < 256 {
-        if line[i] == colour {
+    for x in &line[1..] {
+        if *x == colour {
             count += 1;
-            i += 1;
-            continue;
+        } else {
+            end = put_run(out, end, count, colour);
+            colour = *x;
+            count = 1;
         }
-        end = put_run(out, end, count, colour);
-        colour = line[i];
-        count = 1;
-        i += 1;
     }
     put_run(out, end, count, colour)
 }

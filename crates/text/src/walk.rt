@@ -3,18 +3,20 @@ ghost use Rattle.std.specs.Prelude.{◌≡◌, true, ◌<◌, ◌≤◌, length}
 ghost use Rattle.chip.specs.Lists.{put_at};
 ghost use Rattle.chip.specs.State.{masked};
 ghost use Rattle.snapshot.specs.Calls.{read_vram};
+ghost use Rattle.text.specs.Pieces.{piece_of};
 ghost use Rattle.text.specs.Walk as walks;
 
+use crate::pieces::Piece;
 use crate::range::{put_range, same};
-use crate::refusal::put_refused;
+use crate::refusal::put_refusal;
 use crate::status::{put_status, status_drawn};
-use chip::{Chip, Refusal};
+use chip::{Chip, Refusal, Screen};
 use scanline::draw_row;
 
 // What is next: the line of a refusal, the status line, a line of the picture, or the last range.
 #[derive(Clone, Copy)]
 enum Next {
-    Refused(u8),
+    Refused(Refusal),
     Status,
     Line(u8),
     End,
@@ -30,24 +32,14 @@ pub struct Walk {
     colours: [u8; 256],
 }
 
-// The walk after a step, how many bytes the step wrote, and whether they are the last.
-#[derive(Clone, Copy)]
-pub struct Piece {
-    pub walk: Walk,
-    pub written: usize,
-    pub last: bool,
-}
-
-// What is first, by how reading the file was answered.
-fn first_next(refusal: Refusal) -> Next
-    ensures { result ≡ walks.first_next refusal }
+// What is first, by how reading the file was answered. (`ppm` has the same over what it writes next: no trait for two lines.)
+fn first_next(read: Result<u8, Refusal>) -> Next
+    ensures { result ≡ walks.first_next read }
 {
-    let number = refusal.number();
-    if number == 0 {
-        return Next::Status;
+    match read {
+        Ok(_) => Next::Status,
+        Err(refusal) => Next::Refused(refusal),
     }
-    let refused = number as u8;
-    Next::Refused(refused)
 }
 
 // Reads the file as a snapshot into VRAM, which has its length by type: no program can lend another.
@@ -56,27 +48,12 @@ pub fn start(file: &[u8], vram: &mut [u8; 16384]) -> Walk
     ensures vram_after { vram.new ≡ read_vram vram.old file.now }
 {
     let answer = snapshot::read(Chip::power_up_state(), vram, file);
-    let refusal = answer.refusal;
-    let next = first_next(refusal);
-    let chip = answer.chip;
-    let colours = [0u8; 256];
     Walk {
-        next: next,
-        chip: chip,
+        next: first_next(answer.result),
+        chip: answer.chip,
         from: 0,
         to: 0,
-        colours: colours,
-    }
-}
-
-// Nothing is written, and nothing follows.
-fn nothing(walk: Walk) -> Piece
-    ensures { result ≡ walks.piece_of (walks.writes_nothing walk) }
-{
-    Piece {
-        walk: walk,
-        written: 0,
-        last: true,
+        colours: [0; 256],
     }
 }
 
@@ -95,23 +72,23 @@ fn next_at(l: u8) -> Next
 }
 
 // The status line. Line 0 is then the range so far.
-fn status_step(walk: Walk, vram: &[u8], out: &mut [u8]) -> Piece
+fn status_step(walk: Walk, vram: &[u8], out: &mut [u8]) -> Piece<Walk>
     requires { (masked walk.chip.registers ≡ true) × (length vram.now ≡ 16384) × (2048 ≤ length out.old) }
-    ensures value { result ≡ walks.piece_of (walks.status_step vram.now walk) }
+    ensures value { result ≡ piece_of (walks.status_step vram.now walk) }
     ensures out_after { out.new ≡ put_at 0 (walks.status_step vram.now walk).bytes out.old }
 {
     let chip = walk.chip;
-    let registers = chip.registers;
-    let status = status_drawn(registers, vram, chip.status);
+    let screen = Screen::new(chip.registers, vram);
+    let status = status_drawn(screen, chip.status);
     let end_of_status = put_status(out, chip.status, status);
     let mut colours = [0u8; 256];
-    draw_row(registers, vram, 0, &mut colours);
+    draw_row(screen, 0, &mut colours);
     let after = Walk {
         next: Next::Line(1),
-        chip: chip,
+        chip,
         from: 0,
         to: 0,
-        colours: colours,
+        colours,
     };
     Piece {
         walk: after,
@@ -121,24 +98,25 @@ fn status_step(walk: Walk, vram: &[u8], out: &mut [u8]) -> Piece
 }
 
 // One line more. Where it differs from the range so far, that range has ended: its text is written, and the line starts the next.
-fn line_step(walk: Walk, l: u8, vram: &[u8], out: &mut [u8]) -> Piece
+#[tactic(auto, unfolding(crate::specs::Walk::line_step))]
+fn line_step(walk: Walk, l: u8, vram: &[u8], out: &mut [u8]) -> Piece<Walk>
     requires { (masked walk.chip.registers ≡ true) × (length vram.now ≡ 16384) × (l < 192) × (2048 ≤ length out.old) }
-    ensures value { result ≡ walks.piece_of (walks.line_step vram.now walk l) }
+    ensures value { result ≡ piece_of (walks.line_step vram.now walk l) }
     ensures out_after { out.new ≡ put_at 0 (walks.line_step vram.now walk l).bytes out.old }
 {
     let chip = walk.chip;
-    let registers = chip.registers;
+    let screen = Screen::new(chip.registers, vram);
     let colours = walk.colours;
     let mut line = [0u8; 256];
-    draw_row(registers, vram, l, &mut line);
+    draw_row(screen, l, &mut line);
     let next = next_at(l + 1);
     if same(&colours, &line) {
         let after = Walk {
-            next: next,
-            chip: chip,
+            next,
+            chip,
             from: walk.from,
             to: l,
-            colours: colours,
+            colours,
         };
         return Piece {
             walk: after,
@@ -148,8 +126,8 @@ fn line_step(walk: Walk, l: u8, vram: &[u8], out: &mut [u8]) -> Piece
     }
     let end_of_range = put_range(out, walk.from, walk.to, &colours);
     let after = Walk {
-        next: next,
-        chip: chip,
+        next,
+        chip,
         from: l,
         to: l,
         colours: line,
@@ -162,58 +140,58 @@ fn line_step(walk: Walk, l: u8, vram: &[u8], out: &mut [u8]) -> Piece
 }
 
 // The text of the last range.
-fn end_step(walk: Walk, out: &mut [u8]) -> Piece
+fn end_step(walk: Walk, out: &mut [u8]) -> Piece<Walk>
     requires { 2048 ≤ length out.old }
-    ensures value { result ≡ walks.piece_of (walks.end_step walk) }
+    ensures value { result ≡ piece_of (walks.end_step walk) }
     ensures out_after { out.new ≡ put_at 0 (walks.end_step walk).bytes out.old }
 {
     let colours = walk.colours;
     let end_of_last = put_range(out, walk.from, walk.to, &colours);
     Piece {
-        walk: walk,
+        walk,
         written: end_of_last,
         last: true,
     }
 }
 
 // The line of a refusal.
-fn refused_step(walk: Walk, number: u8, out: &mut [u8]) -> Piece
+fn refused_step(walk: Walk, refusal: Refusal, out: &mut [u8]) -> Piece<Walk>
     requires { 2048 ≤ length out.old }
-    ensures value { result ≡ walks.piece_of (walks.refused_step walk number) }
-    ensures out_after { out.new ≡ put_at 0 (walks.refused_step walk number).bytes out.old }
+    ensures value { result ≡ piece_of (walks.refused_step walk refusal) }
+    ensures out_after { out.new ≡ put_at 0 (walks.refused_step walk refusal).bytes out.old }
 {
-    let written = put_refused(out, number);
     Piece {
-        walk: walk,
-        written: written,
+        walk,
+        written: put_refusal(out, refusal),
         last: true,
     }
 }
 
 // Writes the next piece at the front of the output, whose length by type any piece has room in: no program can lend a shorter one.
-pub fn step(walk: Walk, vram: &[u8; 16384], out: &mut [u8; 2048]) -> Piece
-    ensures value { result ≡ walks.piece_of (walks.step_of vram.now walk) }
+#[tactic(auto, using(crate::proofs::Laws::Steps::draws), unfolding(crate::specs::Walk::step_of, crate::specs::Walk::step_at))]
+pub fn step(walk: Walk, vram: &[u8; 16384], out: &mut [u8; 2048]) -> Piece<Walk>
+    ensures value { result ≡ piece_of (walks.step_of vram.now walk) }
     ensures out_after { out.new ≡ put_at 0 (walks.step_of vram.now walk).bytes out.old }
 {
     let chip = walk.chip;
     let next = walk.next;
     match next {
-        Next::Refused(number) => refused_step(walk, number, out),
+        Next::Refused(refusal) => refused_step(walk, refusal, out),
         Next::Status => {
             if drawable(chip, vram) {
                 status_step(walk, vram, out)
             } else {
-                nothing(walk)
+                Piece::nothing(walk)
             }
         }
         Next::Line(l) => {
             if 191 < l {
-                return nothing(walk);
+                return Piece::nothing(walk);
             }
             if drawable(chip, vram) {
                 line_step(walk, l, vram, out)
             } else {
-                nothing(walk)
+                Piece::nothing(walk)
             }
         }
         Next::End => end_step(walk, out),

@@ -1,5 +1,4 @@
 -- Laws about the definitions of specs/.
 pub mod Bytes
-pub mod Loaded
 pub mod Stored
 pub mod Tables

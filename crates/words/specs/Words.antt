@@ -1,5 +1,5 @@
 -- Eight bytes as one number of 64 bits, a word: byte 0 is the lowest, and shows as the leftmost pixel.
-use Rattle.std.specs.Prelude.{ℕ, ◌+◌, ◌-◌, ◌*◌, ◌/◌, ◌%◌, ◌^◌, ◌<◌, ◌≡◌, Bool, cond, List, length, get_or}
+use Rattle.std.specs.Prelude.{ℕ, ◌-◌, ◌*◌, ◌/◌, ◌%◌, ◌^◌, ◌<◌, ◌≡◌, Bool, cond, List, length, get_or}
 use Rattle.chip.specs.Bits.{bit}
 
 -- byte k of a word
@@ -28,8 +28,3 @@ pub record MasksOf (b : ℕ) (masks : List ℕ) : Type 0 where
 abbrev pub Blended : ℕ → ℕ → ℕ → ℕ → Type 0
 Blended mask set clear w =
     (k : ℕ) → k < 8 → (b : Bool) → byte_of k mask ≡ cond b 255 0 → byte_of k w ≡ cond b (byte_of k set) (byte_of k clear)
-
--- A word whose first n bytes are those of a line from at on, and whose other bytes are 0.
-pub record Loaded (line : List ℕ) (at n w : ℕ) : Type 0 where
-  pub small : w < 2 ^ (8 * n)
-  pub bytes : (k : ℕ) → k < n → byte_of k w ≡ get_or line (at + k) 0

@@ -11,10 +11,8 @@ fn add_bit(masks: &mut [u64], b: usize)
     let n = 1usize << b;
     let k = 7 - b;
     let byte = 255u64 << (8 * k);
-    let mut j = 0;
-    while j < n {
+    for j in 0..n {
         masks[n + j] = masks[j] | byte;
-        j += 1;
     }
 }
 
@@ -23,10 +21,8 @@ pub fn masks() -> [u64; 256]
     ensures { Masks result }
 {
     let mut masks = [0u64; 256];
-    let mut b = 0;
-    while b < 8 {
+    for b in 0..8 {
         add_bit(&mut masks, b);
-        b += 1;
     }
     masks
 }

@@ -1,5 +1,5 @@
 -- Wide rows that are compared.
-use Prim.Native.Nat.{ℕ, zero, suc, ◌+◌, ◌-◌, ◌≤◌, ◌<◌}
+use Prim.Native.Nat.{ℕ, suc, ◌+◌, ◌-◌, ◌≤◌, ◌<◌}
 use native.Mathlib.Decide.{dec_lt}
 use native.Mathlib.Numerals.{add-one}
 use native.Mathlib.Omega.{arith}
@@ -10,6 +10,7 @@ use borrow.Author.Tests.{leb-true, ltb-true, le-leb, lt-leb, lt-ltb, le-ltb}
 use lib.Dec.{leb, ltb}
 use lib.ListN.{length, get_or, take}
 use lib.Seq.{length-take-le, get_or-take}
+use Rattle.std.specs.List.{list_any}
 use Rattle.chip.specs.Bits.{bit}
 use Rattle.chip.specs.Ranges.{any_below}
 use Rattle.chip.proofs.Laws.Ranges.{and-false, and_left, and_right, none-holds, one_holds, any-gives, any-is, any-first, any_same, any-or}
@@ -19,7 +20,8 @@ use Rattle.sprites.specs.declared.scan.Scan.{Scan}
 use Rattle.sprites.specs.declared.sprite.Sprite.{Sprite}
 use Rattle.sprites.proofs.Laws.Columns.{side-small, hits-left, hits-right}
 use Rattle.sprites.proofs.Laws.Meet.{meets-none, meets-more}
-use Rattle.blit.specs.Wide.{WideRow, WideRows, shown_at, rows_meet, places_meet, Near}
+use Rattle.blit.specs.declared.wide_sprite.WideSprite.{WideSprite}
+use Rattle.blit.specs.Wide.{no_wide, WideRow, WideRows, shown_at, rows_meet, wides_meet, any_meet}
 
 module _ (first row c : ℕ) where
   shown-left : c < first → shown_at first row c ≡ false
@@ -105,6 +107,18 @@ pub any-more : (n : ℕ) (p : ℕ → Bool) → any_below (n + 1) p ≡ (any_bel
 unfolding any_below
 any-more n p = rw (add-one n)
 
+-- a test of a list's elements, by their places
+pub any-places : {A : Type 0} (p : A → Bool) (l : List A) (d : A) → list_any p l ≡ any_below (length l) (λ k. p (get_or l k d))
+any-places p [] d = sym (any_none (λ k. p d))
+any-places p (x ∷ l) d = ap (λ (b : Bool). p x || b) (any-places p l d) ∙ sym (any-first (length l) (λ k. p (get_or (x ∷ l) k d)))
+
+-- and of those before a place
+pub any-lower : {A : Type 0} (p : A → Bool) (l : List A) (k : ℕ) (d : A) → k ≤ length l → list_any p (take k l) ≡ any_below k (λ i. p (get_or l i d))
+any-lower p l k d h =
+    any-places p (take k l) d
+    ∙ ap (λ (n : ℕ). any_below n (λ i. p (get_or (take k l) i d))) (length-take-le k l h)
+    ∙ any_same k _ _ (λ i below. ap p (get_or-take k l i d below))
+
 -- coincidence by the sprites' places: each sprite is compared with those before it
 module _ (r : List ℕ) where
   abbrev pair : Sprite → Sprite → Bool
@@ -129,41 +143,25 @@ module _ (r : List ℕ) where
       ∙ ap₂ ◌||◌ (with-one s l) (by-places l)
       ∙ sym (any-or reach (λ c. hits r s c && any_hits r l c) (λ c. meet r l c))
 
--- the first columns of four sprites
-abbrev pub first_columns : List Sprite → List ℕ
-first_columns l = (get_or l 0 no_sprite).first ∷ (get_or l 1 no_sprite).first ∷ (get_or l 2 no_sprite).first ∷ (get_or l 3 no_sprite).first ∷ []
-
-own_first : (l : List Sprite) (k : ℕ) → k < 4 → get_or (first_columns l) k 0 ≡ (get_or l k no_sprite).first
-own_first l zero h = refl
-own_first l (suc zero) h = refl
-own_first l (suc (suc zero)) h = refl
-own_first l (suc (suc (suc zero))) h = refl
-own_first l (suc (suc (suc (suc k)))) h = absurd (omega arith)
-
 -- a scan's sprites, compared by their rows
-module _ (r : List ℕ) (scan : Scan) (rows : List ℕ) (held : Held r scan) (wide : WideRows r scan rows) where
-  pub near-columns : Near (first_columns scan.sprites) rows
-  near-columns =
-      record {
-        firsts_long = refl;
-        rows_long = wide.long;
-        near = λ k h. omega (arith, own_first scan.sprites k h, (held.as_read k h).near);
-      }
-
+module _ (r : List ℕ) (scan : Scan) (wides : List WideSprite) (held : Held r scan) (wide : WideRows r scan wides) where
   abbrev found : List Sprite
   found = take scan.drawn scan.sprites
 
-  shown-at : (k c : ℕ) → k < scan.drawn → shown_at (get_or (first_columns scan.sprites) k 0) (get_or rows k 0) c ≡ hits r (get_or found k no_sprite) c
+  shown-at : (k c : ℕ) → k < scan.drawn → shown_at (get_or (take scan.drawn wides) k no_wide).sprite.first (get_or (take scan.drawn wides) k no_wide).row c ≡ hits r (get_or found k no_sprite) c
   shown-at k c h =
       let inside : k < 4 = omega (arith, held.few) in
-      ap (λ (f : ℕ). shown_at f (get_or rows k 0) c) (own_first scan.sprites k inside)
-      ∙ shown r (get_or scan.sprites k no_sprite) (get_or rows k 0) (wide.each k inside) c
+      ap (λ (w : WideSprite). shown_at w.sprite.first w.row c) (get_or-take scan.drawn wides k no_wide h)
+      ∙ ap (λ (s : Sprite). shown_at s.first (get_or wides k no_wide).row c) (wide.own k inside)
+      ∙ shown r (get_or scan.sprites k no_sprite) (get_or wides k no_wide).row (wide.each k inside) c
       ∙ ap (λ (s : Sprite). hits r s c) (sym (get_or-take scan.drawn scan.sprites k no_sprite h))
 
-  pub rows-coincide : any_below scan.drawn (λ k. any_below k (λ i. places_meet (first_columns scan.sprites) rows i k)) ≡ coincidence r found
+  pub rows-coincide : any_meet (take scan.drawn wides) ≡ coincidence r found
   unfolding rows_meet
   rows-coincide =
       let long : length found ≡ scan.drawn = length-take-le scan.drawn scan.sprites (omega (arith, held.room, held.few)) in
-      any_same scan.drawn _ _ (λ k h. any_same k _ _ (λ i less. any_same reach _ _ (λ c _. ap₂ ◌&&◌ (shown-at i c (omega arith)) (shown-at k c h))))
+      let many : length (take scan.drawn wides) ≡ scan.drawn = length-take-le scan.drawn wides (omega (arith, wide.long, held.few)) in
+      ap (λ (n : ℕ). any_below n (λ k. any_below k (λ i. wides_meet (get_or (take scan.drawn wides) i no_wide) (get_or (take scan.drawn wides) k no_wide)))) many
+      ∙ any_same scan.drawn _ _ (λ k h. any_same k _ _ (λ i less. any_same reach _ _ (λ c _. ap₂ ◌&&◌ (shown-at i c (omega arith)) (shown-at k c h))))
       ∙ ap (λ (n : ℕ). any_below n (lower r found)) (sym long)
       ∙ by-places r found

@@ -1,18 +1,19 @@
 -- A sprite painted eight columns at a time.
-use Prim.Native.Nat.{ℕ, ◌+◌, ◌-◌, ◌*◌, ◌/◌, ◌%◌, ◌^◌, ◌≤◌, ◌<◌}
-use native.Mathlib.Nat.{mul_assoc}
+use Prim.Native.Nat.{ℕ, zero, suc, ◌+◌, ◌-◌, ◌*◌, ◌/◌, ◌%◌, ◌^◌, ◌≤◌, ◌<◌}
 use native.Mathlib.Decide.{dec_lt}
 use native.Mathlib.Omega.{arith}
 use mathlib.Core.Path.{◌≡◌, refl, sym, ap, ap₂, ◌∙◌}
 use mathlib.Core.Bool.{Bool, true, false, cond, ◌||◌}
 use mathlib.Core.List.{List}
-use borrow.Author.Tests.{lt-ltb, ltb-false, eqb-false}
+use borrow.Author.Tests.{ltb-false, eqb-false}
 use lib.Dec.{eqb, ltb}
 use lib.ListN.{length, get_or}
-use lib.Pow.{pow-add}
+use Rattle.std.specs.Int.{to_be_bytes}
+use mir.Syntax.{w32}
 use Rattle.chip.specs.Bits.{bit}
 use Rattle.chip.specs.Lists.{tabulate}
 use Rattle.chip.specs.Modes.{large_sprites, magnified}
+use Rattle.chip.proofs.Laws.Bits.{bit_kept}
 use Rattle.chip.proofs.Laws.Lists.{tabulated}
 use Rattle.planes.specs.Painted.{Painted}
 use Rattle.sprites.specs.Pixels.{visible, hits}
@@ -20,7 +21,7 @@ use Rattle.sprites.specs.Shape.{side}
 use Rattle.sprites.specs.declared.sprite.Sprite.{Sprite}
 use Rattle.sprites.proofs.Laws.Columns.{hits-left, hits-right, side-small}
 use Rattle.blit.specs.Wide.{WideRow}
-use Rattle.blit.proofs.Laws.Shifted.{bit-upper, bit_moved}
+use Rattle.blit.proofs.Laws.Shifted.{bit-upper}
 
 -- sprites are eight columns wide, or a multiple of it
 eights : (g m : Bool) → cond g 16 8 * cond m 2 1 % 8 ≡ 0
@@ -50,22 +51,23 @@ paintable colour none first low high end e =
     no-right true false n = refl
     no-right false b n = n
 
--- the columns that are left are those of the row, moved to its left end
-pub left-more : (row j left : ℕ) → left ≡ row * 2 ^ j % 2 ^ 32 → left % 16777216 * 256 ≡ row * 2 ^ (j + 8) % 2 ^ 32
-left-more row j left e =
-    let more : row * 2 ^ (j + 8) ≡ row * 2 ^ j * 256 = ap (λ (n : ℕ). row * n) (pow-add 2 j 8) ∙ sym (mul_assoc row (2 ^ j) 256) in
-    omega arith
+-- the byte of the eight from column 8 * j on
+pub byte-bit : (row j k : ℕ) → j < 4 → k < 8 → bit (7 - k) (row / 2 ^ (24 - 8 * j) % 256) ≡ bit (31 - (8 * j + k)) row
+byte-bit row j k few h =
+    let eight : 8 ≡ k + 1 + (7 - k) = omega arith in
+    let place : 24 - 8 * j + (7 - k) ≡ 31 - (8 * j + k) = omega arith in
+    ap (λ (n : ℕ). bit (7 - k) (row / 2 ^ (24 - 8 * j) % 2 ^ n)) eight
+    ∙ bit_kept k (7 - k) (row / 2 ^ (24 - 8 * j))
+    ∙ bit-upper (24 - 8 * j) (7 - k) row
+    ∙ ap (λ (i : ℕ). bit i row) place
 
--- the byte of the next eight
-pub next_bit : (row j left k : ℕ) → left ≡ row * 2 ^ j % 2 ^ 32 → k < 8 → j + k < 32 → bit (7 - k) (left / 16777216) ≡ bit (31 - (j + k)) row
-next_bit row j left k e h inside =
-    let place : 24 + (7 - k) ≡ 31 - k = omega arith in
-    let turned : k + j ≡ j + k = omega arith in
-    bit-upper 24 (7 - k) left
-    ∙ ap (λ (i : ℕ). bit i left) place
-    ∙ ap (bit (31 - k)) e
-    ∙ bit_moved row j k (omega arith)
-    ∙ rw (turned, lt-ltb (j + k) 32 inside)
+-- it is one of the row's bytes
+pub pattern-at : (row j : ℕ) → j < 4 → get_or (to_be_bytes w32 row) j 0 ≡ row / 2 ^ (24 - 8 * j) % 256
+pattern-at row zero h = refl
+pattern-at row (suc zero) h = refl
+pattern-at row (suc (suc zero)) h = refl
+pattern-at row (suc (suc (suc zero))) h = omega arith
+pattern-at row (suc (suc (suc (suc j)))) h = absurd (omega arith)
 
 -- a run beside a run
 pub painted-beside : {next new old : List ℕ} {at k w : ℕ} {f g : ℕ → ℕ} → Painted new old at k f → Painted next new (at + k) w g → ((i : ℕ) → i < w → g i ≡ f (k + i)) → Painted next old at (k + w) f
@@ -89,14 +91,14 @@ abbrev pub row_over : ℕ → ℕ → List ℕ → ℕ → ℕ → ℕ
 row_over row value old at k = cond (bit (31 - k) row) value (get_or old (at + k) 0)
 
 -- the next eight
-pub painted-eight : {next new old : List ℕ} {at j : ℕ} (row value left : ℕ) (bytes : ℕ → ℕ) → left ≡ row * 2 ^ j % 2 ^ 32 → j + 8 ≤ 32 → ((k : ℕ) → k < 8 → bytes k ≡ value) → Painted new old at j (row_over row value old at) → Painted next new (at + j) 8 (λ k. cond (bit (7 - k) (left / 16777216)) (bytes k) (get_or new (at + j + k) 0)) → Painted next old at (j + 8) (row_over row value old at)
-painted-eight {next} {new} {old} {at} {j} row value left bytes e few same p q = painted-beside p q step
+pub painted-eight : {next new old : List ℕ} {at j : ℕ} (row value pattern : ℕ) (bytes : ℕ → ℕ) → j < 4 → pattern ≡ row / 2 ^ (24 - 8 * j) % 256 → ((k : ℕ) → k < 8 → bytes k ≡ value) → Painted new old at (8 * j) (row_over row value old at) → Painted next new (at + 8 * j) 8 (λ k. cond (bit (7 - k) pattern) (bytes k) (get_or new (at + 8 * j + k) 0)) → Painted next old at (8 * j + 8) (row_over row value old at)
+painted-eight {next} {new} {old} {at} {j} row value pattern bytes few e same p q = painted-beside p q step
   where
-    step : (k : ℕ) → k < 8 → cond (bit (7 - k) (left / 16777216)) (bytes k) (get_or new (at + j + k) 0) ≡ row_over row value old at (j + k)
+    step : (k : ℕ) → k < 8 → cond (bit (7 - k) pattern) (bytes k) (get_or new (at + 8 * j + k) 0) ≡ row_over row value old at (8 * j + k)
     step k h =
-        let place : at + j + k ≡ at + (j + k) = omega arith in
-        let behind : get_or new (at + j + k) 0 ≡ get_or old (at + (j + k)) 0 = p.right (at + j + k) (omega arith) ∙ ap (λ (x : ℕ). get_or old x 0) place in
-        rw (next_bit row j left k e h (omega arith), same k h, behind)
+        let place : at + 8 * j + k ≡ at + (8 * j + k) = omega arith in
+        let behind : get_or new (at + 8 * j + k) 0 ≡ get_or old (at + (8 * j + k)) 0 = p.right (at + 8 * j + k) (omega arith) ∙ ap (λ (x : ℕ). get_or old x 0) place in
+        rw (e, byte-bit row j k few h, same k h, behind)
 
 -- a row painted whole is its sprite painted
 module _ (r : List ℕ) (s : Sprite) (row : ℕ) (wide : WideRow r s row) (on : 32 ≤ s.first) {new old : List ℕ} (long : length old ≡ 256) where

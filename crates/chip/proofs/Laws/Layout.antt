@@ -14,8 +14,7 @@ use Rattle.chip.specs.TwoBytes.{low_first, low_first_at}
 use Rattle.chip.specs.State.{Bytes, Fits, flag_of, byte_of, waiting_of, masked, well_formed, with_redraw, with_lost, address_to}
 use Rattle.chip.specs.Layout.{encoded, waiting_valid, state_in, if_valid, decoded, block_of, chip_of}
 use Rattle.chip.specs.declared.state.Chip.{Chip}
-use Rattle.chip.specs.declared.state.Waiting.{Waiting}
-use Rattle.chip.specs.declared.state.Waiting.TheVariants.{Nothing, First}
+use Rattle.std.specs.Prelude.{Option, None, Some}
 use Rattle.chip.proofs.Laws.Lists.{take-tabulate, listed, bytes_take}
 use Rattle.chip.proofs.Laws.TwoBytes.{low-first-is, low-first-back, low-first-small}
 use Rattle.chip.proofs.Laws.Ranges.{and_left, and_right}
@@ -26,13 +25,13 @@ as-held : {x : Bool} → x ≡ true → (c : Chip) → if_valid x c ≡ c
 as-held holds c = rw holds
 
 -- the waiting byte, as two bytes and back
-waits : (w : Waiting) → waiting_of (flag_of w) (byte_of w) ≡ w
-waits Nothing = refl
-waits (First a) = refl
+waits : (w : Option ℕ) → waiting_of (flag_of w) (byte_of w) ≡ w
+waits None = refl
+waits (Some a) = refl
 
-valid : (w : Waiting) → waiting_valid (flag_of w) (byte_of w) ≡ true
-valid Nothing = refl
-valid (First a) = refl
+valid : (w : Option ℕ) → waiting_valid (flag_of w) (byte_of w) ≡ true
+valid None = refl
+valid (Some a) = refl
 
 module _ (c : Chip) (eight : length c.registers ≡ 8) where
   abbrev rest : List ℕ
@@ -126,7 +125,7 @@ valid-held false c h = and_right (masked c.registers) _ h
 flag-back : (f a : ℕ) → waiting_valid f a ≡ true → (flag_of (waiting_of f a) ≡ f) × (byte_of (waiting_of f a) ≡ a)
 flag-back f a = by (eqb f 1) refl
   where
-    by : (x : Bool) → eqb f 1 ≡ x → (x || eqb f 0 && eqb a 0) ≡ true → (flag_of (cond x (First a) Nothing) ≡ f) × (byte_of (cond x (First a) Nothing) ≡ a)
+    by : (x : Bool) → eqb f 1 ≡ x → (x || eqb f 0 && eqb a 0) ≡ true → (flag_of (cond x (Some a) None) ≡ f) × (byte_of (cond x (Some a) None) ≡ a)
     by true e h = (sym (eqb-true f 1 e), refl)
     by false e h = (sym (eqb-true f 0 (and_left (eqb f 0) (eqb a 0) h)), sym (eqb-true a 0 (and_right (eqb f 0) (eqb a 0) h)))
 
@@ -183,7 +182,7 @@ fits-held false f = fits-changed (address_to 65535) (lit< tt) f
 waiting-byte : (flag a : ℕ) → a < 256 → byte_of (waiting_of flag a) < 256
 waiting-byte flag a h = by (eqb flag 1)
   where
-    by : (x : Bool) → byte_of (cond x (First a) Nothing) < 256
+    by : (x : Bool) → byte_of (cond x (Some a) None) < 256
     by true = h
     by false = lit< tt
 

@@ -12,8 +12,7 @@ use Rattle.chip.specs.Bits.{set_bit}
 use Rattle.chip.specs.State.{Bytes, Fits, byte_of, kept, masked, well_formed, power_up_state, Change, registers_to, address_to, buffer_to, waiting_to, status_to, redraw_to, lost_to, changed, with_registers}
 use Rattle.chip.specs.Ports.{next_address, prefetched, register_written, control_by, control, most_lost, lost_by, first_dropped, data_written, after_data_read, after_status_read, display_ended, was_reset}
 use Rattle.chip.specs.declared.state.Chip.{Chip}
-use Rattle.chip.specs.declared.state.Waiting.{Waiting}
-use Rattle.chip.specs.declared.state.Waiting.TheVariants.{Nothing, First}
+use Rattle.std.specs.Prelude.{Option, None, Some}
 use Rattle.chip.proofs.Laws.Lists.{bytes-zeros}
 use Rattle.chip.proofs.Laws.Ranges.{and_both, and_right}
 use Rattle.chip.proofs.Laws.State.{masked-in, FitsType, fits-changed}
@@ -54,13 +53,13 @@ next-in a = omega arith
 at_address : {c : Chip} (a : ℕ) → a ≤ 16383 → Ready c → Ready (changed (address_to a) c)
 at_address a h ready = ready-changed (address_to a) (omega arith) h ready
 
-nothing-waits : {c : Chip} → Ready c → Ready (changed (waiting_to Nothing) c)
-nothing-waits ready = ready-changed (waiting_to Nothing) (lit< tt) tt ready
+nothing-waits : {c : Chip} → Ready c → Ready (changed (waiting_to None) c)
+nothing-waits ready = ready-changed (waiting_to None) (lit< tt) tt ready
 
 -- the count stops
-lost-small : (w : Waiting) (n : ℕ) → n < 65536 → lost_by w n < 65536
-lost-small Nothing n h = h
-lost-small (First a) n h = by (ltb n most_lost) refl
+lost-small : (w : Option ℕ) (n : ℕ) → n < 65536 → lost_by w n < 65536
+lost-small None n h = h
+lost-small (Some a) n h = by (ltb n most_lost) refl
   where
     by : (t : Bool) → ltb n most_lost ≡ t → cond t (n + 1) most_lost < 65536
     by true e = let below = ltb-true n most_lost e in omega arith
@@ -121,9 +120,9 @@ module _ {A : Type 0} (P : A → Type 0) where
 pub ready-control : {c : Chip} → Ready c → (vram : List ℕ) → Bytes vram → (x : ℕ) → x < 256 → Ready (control x vram c)
 ready-control {c} ready vram bytes x h = by c.waiting ready.fits.waiting
   where
-    by : (w : Waiting) → byte_of w < 256 → Ready (control_by w x vram c)
-    by Nothing small = ready-changed (waiting_to (First x)) h tt ready
-    by (First a) small =
+    by : (w : Option ℕ) → byte_of w < 256 → Ready (control_by w x vram c)
+    by None small = ready-changed (waiting_to (Some x)) h tt ready
+    by (Some a) small =
         let pair = at_address (x % 64 * 256 + a) (omega arith) (nothing-waits ready) in
         either Ready (leb 128 x) _ _ (ready-register pair (x % 8) a (omega arith)) (either Ready (ltb x 64) _ _ (ready-prefetched pair vram bytes) pair)
 

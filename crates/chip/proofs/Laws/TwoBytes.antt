@@ -20,6 +20,10 @@ low-first-back l bytes i =
     let high : low_first_at l i / 256 ≡ get_or l (i + 1) 0 = omega (arith, bytes i, bytes (i + 1)) in
     λ k. low k ∷ high k ∷ []
 
+-- Two bytes as `to_le_bytes` gives them.
+pub low-first-two : (n : ℕ) → n < 65536 → n % 256 ∷ n / 256 % 256 ∷ [] ≡ low_first n
+low-first-two n h = let high : n / 256 % 256 ≡ n / 256 = omega arith in λ i. n % 256 ∷ high i ∷ []
+
 -- It fits two bytes, and a number that does has two.
 pub low-first-small : (l : List ℕ) → Bytes l → (i : ℕ) → low_first_at l i < 65536
 low-first-small l bytes i = omega (arith, bytes i, bytes (i + 1))

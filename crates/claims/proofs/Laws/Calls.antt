@@ -1,7 +1,7 @@
 -- The laws of each call.
 use Prim.Native.Nat.{ℕ, ◌≤◌, ◌<◌}
 use native.Mathlib.Omega.{arith}
-use mathlib.Core.Path.{◌≡◌, refl}
+use mathlib.Core.Path.{◌≡◌, refl, ap}
 use mathlib.Core.Bool.{true}
 use mathlib.Core.List.{List}
 use lib.Dec.{eqb, lit<}
@@ -10,9 +10,10 @@ use mir.Val.{bool_byte}
 use borrow.Author.Tests.{eqb-true}
 use Rattle.chip.specs.State.{vram_size, Bytes, Fits, power_up_state}
 use Rattle.chip.specs.Ports.{cleared_vram, interrupt_on}
+use Rattle.chip.specs.Refusals.{is_accepted}
 use Rattle.chip.specs.declared.state.Chip.{Chip}
 use Rattle.chip.proofs.Laws.Lists.{bytes-zeros}
-use Rattle.chip.proofs.Laws.Refusals.{all_pass, differ}
+use Rattle.chip.proofs.Laws.Refusals.{all_pass}
 use Rattle.chip.proofs.Laws.Ready.{ready-power-up}
 use Rattle.point.specs.Calls.{point_colour, point_origin}
 use Rattle.point.proofs.Laws.Small.{colour-small, origin-small}
@@ -29,7 +30,7 @@ use Rattle.claims.specs.Description.{tests}
 use Rattle.claims.specs.Descriptions.{described}
 use Rattle.claims.proofs.Laws.States.{decoded-eight, decoded-redraw}
 use Rattle.claims.proofs.Laws.Invariant.{sets-mark, draws-all, changes-no-line, refreshes}
-use Rattle.claims.proofs.Laws.Lawful.{Lawful, nothing-more, by_number, only-reads, stores}
+use Rattle.claims.proofs.Laws.Lawful.{Lawful, nothing-more, by_number, accepted-number, only-reads, stores}
 use Rattle.claims.proofs.Laws.Draws.{full-drawn, due-drawn}
 use Rattle.claims.proofs.Laws.RecordCalls.{passed-test, control-write-lawful, data-write-lawful, data-read-lawful, status-read-lawful, end-of-display-lawful, reset-lawful, draw-line-lawful}
 use Rattle.claims.proofs.Laws.RunLog.{run-lawful}
@@ -54,12 +55,11 @@ pub lawful : (op : Op) → Lawful (described op)
 unfolding block_entry vram_entry result_through block_through list_through
 lawful Op.power_up =
     record {
-      refusal = λ b. refl;
-      can-refuse = λ c. tt;
+      accepted = λ b ok. rw ok;
       only-from-c = nothing-more;
       refused = λ b e. rw e;
       not_entered = λ block b e. by_number _ (rw e);
-      entered = λ b fits n e. stores (described Op.power_up) b fits 0 (lit< tt) refl (rw e) refl (λ m. rw m) (λ ok. rw ok refl);
+      entered = λ b fits n e. stores (described Op.power_up) b fits 0 (lit< tt) refl (λ r m. rw m) (rw (e, accepted-number)) (λ ok. rw ok (refl, refl, refl));
       effect = λ b h lengths typed p ok. rw ok (sets-mark power_up_state cleared_vram refl ready-power-up refl (length-replicate {A = ℕ} vram_size 0) (bytes-zeros vram_size));
     }
 lawful (Op.control_write x) = control-write-lawful x
@@ -69,75 +69,68 @@ lawful Op.status_read = status-read-lawful
 lawful Op.end_of_display = end-of-display-lawful
 lawful Op.interrupt_line =
     record {
-      refusal = λ b. refl;
-      can-refuse = λ c. tt;
+      accepted = λ b ok. rw ok;
       only-from-c = nothing-more;
       refused = λ b e. rw e;
       not_entered = λ block b e. by_number _ (rw e);
-      entered = λ b fits n e. only-reads (described Op.interrupt_line) b fits _ (line_small b.chip) refl (rw e) (λ m. rw m) (λ ok. rw ok);
+      entered = λ b fits n e. only-reads (described Op.interrupt_line) b fits _ (line_small b.chip) refl (λ r m. rw m) (rw e) (λ ok. rw ok (refl, refl));
       effect = λ b h lengths typed p ok. rw ok (changes-no-line _ refl refl (passed-test typed p.0) refl refl);
     }
 lawful Op.reset = reset-lawful
 lawful (Op.draw_line line codes l) = draw-line-lawful line codes l
 lawful (Op.point l x) =
     record {
-      refusal = λ b. refl;
-      can-refuse = λ c. (refl, (refl, tt));
-      only-from-c = record { can-refuse = tt; first = λ c e. absurd (differ e); numbers_fit = λ vram bytes h. bytes };
+      accepted = λ b ok. rw ok;
+      only-from-c = record { first = λ c e. cc; numbers_fit = λ vram bytes h. bytes };
       refused = λ b e. rw e;
       not_entered = λ block b e. by_number _ (rw e);
-      entered = λ b fits bytes e. only-reads (described (Op.point l x)) b fits _ (point-small b fits bytes l x) refl (rw e) (λ m. refl) (λ ok. refl);
+      entered = λ b fits bytes e. only-reads (described (Op.point l x)) b fits _ (point-small b fits bytes l x) refl (λ r m. rw m) (rw e) (λ ok. rw ok (refl, refl));
       effect = λ b h lengths typed p ok. changes-no-line _ refl refl (passed-test typed p.1.0) refl refl;
     }
 lawful (Op.origin l x) =
     record {
-      refusal = λ b. refl;
-      can-refuse = λ c. (refl, (refl, tt));
+      accepted = λ b ok. rw ok;
       only-from-c = nothing-more;
       refused = λ b e. rw e;
       not_entered = λ block b e. by_number _ (rw e);
-      entered = λ b fits n e. only-reads (described (Op.origin l x)) b fits _ (origin-byte b l x) refl (rw e) (λ m. refl) (λ ok. refl);
+      entered = λ b fits n e. only-reads (described (Op.origin l x)) b fits _ (origin-byte b l x) refl (λ r m. rw m) (rw e) (λ ok. rw ok (refl, refl));
       effect = λ b h lengths typed p ok. changes-no-line _ refl refl (passed-test typed p.1.0) refl refl;
     }
 lawful Op.full_draw =
     record {
-      refusal = λ b. refl;
-      can-refuse = λ c. tt;
+      accepted = λ b ok. rw ok;
       only-from-c = nothing-more;
       refused = λ b e. rw e;
       not_entered = λ block b e. by_number _ (rw e);
-      entered = λ b fits n e. stores (described Op.full_draw) b fits 0 (lit< tt) refl (rw e) refl (λ m. rw m) (λ ok. rw ok fits.eight);
+      entered = λ b fits n e. stores (described Op.full_draw) b fits 0 (lit< tt) refl (λ r m. rw m) (rw (e, accepted-number)) (λ ok. rw ok (refl, refl, fits.eight));
       effect = λ b h lengths typed p ok. draws-all (full-drawn b ok) (passed-test typed p.1.1.1.1.0);
     }
 lawful Op.refresh =
     record {
-      refusal = λ b. refl;
-      can-refuse = λ c. tt;
+      accepted = λ b ok. rw ok;
       only-from-c = nothing-more;
       refused = λ b e. rw e;
       not_entered = λ block b e. by_number _ (rw e);
-      entered = λ b fits n e. stores (described Op.refresh) b fits _ (count_small b) refl (rw e) refl (λ m. rw m) (λ ok. rw ok fits.eight);
+      entered = λ b fits n e. stores (described Op.refresh) b fits _ (count_small b) refl (λ r m. rw m) (rw (e, accepted-number)) (λ ok. rw ok (refl, refl, fits.eight));
       effect = λ b h lengths typed p ok. refreshes refl (due-drawn b ok);
     }
 lawful (Op.read_snapshot s) =
     record {
-      refusal = λ b. refl;
-      can-refuse = λ c. (refl, (refl, (refl, (refl, tt))));
+      accepted = λ b ok. rw ok;
       only-from-c = nothing-more;
       refused = λ b e. rw e;
       not_entered = λ block b e. by_number _ (rw e);
-      entered = λ b fits n e. stores (described (Op.read_snapshot s)) b fits 0 (lit< tt) refl (rw e) refl (λ m. rw m)
-          (λ ok. let p = all_pass (tests (described (Op.read_snapshot s)) b) (refl, (refl, (refl, (refl, (refl, tt))))) ok in rw ok (decoded-eight (state_bytes s) 0 (long-state s p.1.0)));
+      entered = λ b fits n e. stores (described (Op.read_snapshot s)) b fits 0 (lit< tt) refl (λ r m. rw m) (rw (e, accepted-number))
+          (λ ok. let p = all_pass (tests (described (Op.read_snapshot s)) b) (ap is_accepted ok) in rw ok (refl, refl, decoded-eight (state_bytes s) 0 (long-state s p.1.0)));
       effect = λ b h lengths typed p ok. rw ok (sets-mark (held_state s) (vram_bytes s) refl (ready_held s h (eqb-true _ _ p.1.0) p.1.1.1.1.0) (decoded-redraw (state_bytes s) 0) (length-vram s (eqb-true _ _ p.1.0)) (bytes-held s h));
     }
 lawful (Op.write_snapshot s) =
     record {
-      refusal = λ b. refl;
-      can-refuse = λ c. (refl, tt);
+      accepted = λ b ok. rw ok;
       only-from-c = nothing-more;
       refused = λ b e. rw e;
       not_entered = λ block b e. by_number _ (rw e);
-      entered = λ b fits n e. only-reads (described (Op.write_snapshot s)) b fits 0 (lit< tt) refl (rw e) (λ m. rw m) (λ ok. rw ok);
+      entered = λ b fits n e. only-reads (described (Op.write_snapshot s)) b fits 0 (lit< tt) refl (λ r m. rw m) (rw e) (λ ok. rw ok (refl, refl));
       effect = λ b h lengths typed p ok. rw ok (changes-no-line _ refl refl (passed-test typed p.1.0) refl refl);
     }
 lawful (Op.run_log line log outcome) = run-lawful line log outcome

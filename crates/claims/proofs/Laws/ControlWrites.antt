@@ -7,11 +7,10 @@ use lib.Dec.{eqb, leb, ltb}
 use lib.ListN.{length, set, length-set}
 use lib.Seq.{set-get_or}
 use borrow.Author.Tests.{eqb-true}
+use Rattle.std.specs.Prelude.{Option, None, Some}
 use Rattle.chip.specs.State.{kept, register, with_address, with_waiting}
 use Rattle.chip.specs.Ports.{register_written, control_by, control}
 use Rattle.chip.specs.declared.state.Chip.{Chip}
-use Rattle.chip.specs.declared.state.Waiting.{Waiting}
-use Rattle.chip.specs.declared.state.Waiting.TheVariants.{Nothing, First}
 use Rattle.chip.proofs.Laws.Ranges.{or-false, or-true}
 
 -- From c to d registers and redraw mark stay, or the mark is set.
@@ -34,7 +33,7 @@ register-redraws n a c = by (eqb (kept n a) (register n c.registers)) refl
 
 -- the address of a pair does not matter to lines
 abbrev pair : ℕ → ℕ → Chip → Chip
-pair x a c = with_address (x % 64 * 256 + a) (with_waiting Nothing c)
+pair x a c = with_address (x % 64 * 256 + a) (with_waiting None c)
 
 after-pair : (x a : ℕ) (c : Chip) {d : Chip} → Redraws (pair x a c) d → Redraws c d
 after-pair x a c (no_line r m) = no_line r m
@@ -43,9 +42,9 @@ after-pair x a c (every-line m) = every-line m
 pub control-redraws : (x : ℕ) (vram : List ℕ) (c : Chip) → Redraws c (control x vram c)
 control-redraws x vram c = by c.waiting
   where
-    by : (w : Waiting) → Redraws c (control_by w x vram c)
-    by Nothing = no_line refl refl
-    by (First a) =
+    by : (w : Option ℕ) → Redraws c (control_by w x vram c)
+    by None = no_line refl refl
+    by (Some a) =
         either-redraws (leb 128 x) (after-pair x a c (register-redraws (x % 8) a (pair x a c))) (either-redraws (ltb x 64) (no_line refl refl) (no_line refl refl))
 
 -- A control write leaves eight registers.
@@ -59,6 +58,6 @@ either-eight false p q = q
 pub control-eight : (x : ℕ) (vram : List ℕ) (c : Chip) → length c.registers ≡ 8 → length (control x vram c).registers ≡ 8
 control-eight x vram c e = (by c.waiting).is
   where
-    by : (w : Waiting) → Eight (control_by w x vram c)
-    by Nothing = record { is = e }
-    by (First a) = either-eight (leb 128 x) (record { is = length-set c.registers (x % 8) (kept (x % 8) a) ∙ e }) (either-eight (ltb x 64) (record { is = e }) (record { is = e }))
+    by : (w : Option ℕ) → Eight (control_by w x vram c)
+    by None = record { is = e }
+    by (Some a) = either-eight (leb 128 x) (record { is = length-set c.registers (x % 8) (kept (x % 8) a) ∙ e }) (either-eight (ltb x 64) (record { is = e }) (record { is = e }))

@@ -7,10 +7,10 @@ use lib.Dec.{eqb}
 use lib.ListN.{length}
 use borrow.Author.Tests.{eqb-true}
 use Rattle.chip.specs.State.{vram_size}
-use Rattle.chip.specs.Refusals.{Test, is_accepted}
+use Rattle.chip.specs.Refusals.{Test}
 use Rattle.chip.specs.declared.state.Chip.{Chip}
 use Rattle.chip.proofs.Laws.Ranges.{and-false}
-use Rattle.chip.proofs.Laws.Refusals.{AllPass, AllRefuse, differ}
+use Rattle.chip.proofs.Laws.Refusals.{AllPass, differ}
 use Rattle.claims.specs.Bench.{Bench}
 use Rattle.claims.specs.Call.{Lent, own, other, LentLists}
 use Rattle.claims.specs.Description.{Description, test_if, tests, Left}
@@ -23,10 +23,6 @@ use Rattle.claims.proofs.Laws.Lawful.{as_lent, bench_of}
 pub passed-if : (f : Bool) (t : Test) (ts : List Test) → AllPass (test_if f t ts) → (f ≡ true → t.passes ≡ true) × AllPass ts
 passed-if true t ts p = (λ e. p.0, p.1)
 passed-if false t ts p = (λ e. absurd (differ (sym e)), p)
-
-pub refuse-if : (f : Bool) (t : Test) (ts : List Test) → is_accepted t.refusal ≡ false → AllRefuse ts → AllRefuse (test_if f t ts)
-refuse-if true t ts r rs = (r, rs)
-refuse-if false t ts r rs = rs
 
 module _ {n : ℕ} where
   -- A list that passed the test of its length, or is not taken, was the bench's own, and what the call left of it stays.

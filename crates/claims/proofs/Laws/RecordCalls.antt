@@ -16,7 +16,7 @@ use Rattle.claims.specs.Call.{Op}
 use Rattle.claims.specs.Descriptions.{described}
 use Rattle.claims.proofs.Laws.ControlWrites.{control-redraws, control-eight}
 use Rattle.claims.proofs.Laws.Invariant.{sets-mark, changes-no-line, writes_byte, state-effect}
-use Rattle.claims.proofs.Laws.Lawful.{Lawful, nothing-more, by_number, stores}
+use Rattle.claims.proofs.Laws.Lawful.{Lawful, nothing-more, by_number, accepted-number, stores}
 
 -- a state that passed its test
 pub passed-test : {b : Bench} → Typed b → well_formed b.chip ≡ true → Ready b.chip
@@ -26,12 +26,11 @@ pub control-write-lawful : (x : ℕ) → Lawful (described (Op.control_write x))
 unfolding block_entry vram_entry result_through block_through list_through
 control-write-lawful x =
     record {
-      refusal = λ b. refl;
-      can-refuse = λ c. tt;
+      accepted = λ b ok. rw ok;
       only-from-c = nothing-more;
       refused = λ b e. rw e;
       not_entered = λ block b e. by_number _ (rw e);
-      entered = λ b fits n e. stores (described (Op.control_write x)) b fits 0 (lit< tt) refl (rw e) refl (λ m. rw m) (λ ok. rw ok (control-eight x b.vram b.chip fits.eight));
+      entered = λ b fits n e. stores (described (Op.control_write x)) b fits 0 (lit< tt) refl (λ r m. rw m) (rw (e, accepted-number)) (λ ok. rw ok (refl, refl, (control-eight x b.vram b.chip fits.eight)));
       effect = λ b h lengths typed p ok. rw ok (state-effect (control x b.vram b.chip) lengths typed refl (ready-control (passed-test typed p.1.0) b.vram typed.vram x h) (control-redraws x b.vram b.chip));
     }
 
@@ -39,12 +38,11 @@ pub data-write-lawful : (x : ℕ) → Lawful (described (Op.data_write x))
 unfolding block_entry vram_entry result_through block_through list_through
 data-write-lawful x =
     record {
-      refusal = λ b. refl;
-      can-refuse = λ c. tt;
+      accepted = λ b ok. rw ok;
       only-from-c = nothing-more;
       refused = λ b e. rw e;
       not_entered = λ block b e. by_number _ (rw e);
-      entered = λ b fits n e. stores (described (Op.data_write x)) b fits 0 (lit< tt) refl (rw e) refl (λ m. rw m) (λ ok. rw ok fits.eight);
+      entered = λ b fits n e. stores (described (Op.data_write x)) b fits 0 (lit< tt) refl (λ r m. rw m) (rw (e, accepted-number)) (λ ok. rw ok (refl, refl, fits.eight));
       effect = λ b h lengths typed p ok. rw ok (writes_byte x refl refl h);
     }
 
@@ -52,12 +50,11 @@ pub data-read-lawful : Lawful (described Op.data_read)
 unfolding block_entry vram_entry result_through block_through list_through
 data-read-lawful =
     record {
-      refusal = λ b. refl;
-      can-refuse = λ c. tt;
+      accepted = λ b ok. rw ok;
       only-from-c = nothing-more;
       refused = λ b e. rw e;
       not_entered = λ block b e. by_number _ (rw e);
-      entered = λ b fits n e. stores (described Op.data_read) b fits b.chip.buffer fits.buffer refl (rw e) refl (λ m. rw m) (λ ok. rw ok fits.eight);
+      entered = λ b fits n e. stores (described Op.data_read) b fits b.chip.buffer fits.buffer refl (λ r m. rw m) (rw (e, accepted-number)) (λ ok. rw ok (refl, refl, fits.eight));
       effect = λ b h lengths typed p ok. rw ok (changes-no-line _ refl refl (ready_read (passed-test typed p.1.0) b.vram typed.vram) refl refl);
     }
 
@@ -65,12 +62,11 @@ pub status-read-lawful : Lawful (described Op.status_read)
 unfolding block_entry vram_entry result_through block_through list_through
 status-read-lawful =
     record {
-      refusal = λ b. refl;
-      can-refuse = λ c. tt;
+      accepted = λ b ok. rw ok;
       only-from-c = nothing-more;
       refused = λ b e. rw e;
       not_entered = λ block b e. by_number _ (rw e);
-      entered = λ b fits n e. stores (described Op.status_read) b fits b.chip.status fits.status refl (rw e) refl (λ m. rw m) (λ ok. rw ok fits.eight);
+      entered = λ b fits n e. stores (described Op.status_read) b fits b.chip.status fits.status refl (λ r m. rw m) (rw (e, accepted-number)) (λ ok. rw ok (refl, refl, fits.eight));
       effect = λ b h lengths typed p ok. rw ok (changes-no-line _ refl refl (ready-status-read (passed-test typed p.0)) refl refl);
     }
 
@@ -78,12 +74,11 @@ pub end-of-display-lawful : Lawful (described Op.end_of_display)
 unfolding block_entry vram_entry result_through block_through list_through
 end-of-display-lawful =
     record {
-      refusal = λ b. refl;
-      can-refuse = λ c. tt;
+      accepted = λ b ok. rw ok;
       only-from-c = nothing-more;
       refused = λ b e. rw e;
       not_entered = λ block b e. by_number _ (rw e);
-      entered = λ b fits n e. stores (described Op.end_of_display) b fits 0 (lit< tt) refl (rw e) refl (λ m. rw m) (λ ok. rw ok fits.eight);
+      entered = λ b fits n e. stores (described Op.end_of_display) b fits 0 (lit< tt) refl (λ r m. rw m) (rw (e, accepted-number)) (λ ok. rw ok (refl, refl, fits.eight));
       effect = λ b h lengths typed p ok. rw ok (changes-no-line _ refl refl (ready-ended (passed-test typed p.0)) refl refl);
     }
 
@@ -91,12 +86,11 @@ pub reset-lawful : Lawful (described Op.reset)
 unfolding block_entry vram_entry result_through block_through list_through
 reset-lawful =
     record {
-      refusal = λ b. refl;
-      can-refuse = λ c. tt;
+      accepted = λ b ok. rw ok;
       only-from-c = nothing-more;
       refused = λ b e. rw e;
       not_entered = λ block b e. by_number _ (rw e);
-      entered = λ b fits n e. let r = b.chip.registers in stores (described Op.reset) b fits 0 (lit< tt) refl (rw e) refl (λ m. rw m) (λ ok. rw ok (length-set (set r 0 0) 1 0 ∙ length-set r 0 0 ∙ fits.eight));
+      entered = λ b fits n e. let r = b.chip.registers in stores (described Op.reset) b fits 0 (lit< tt) refl (λ r m. rw m) (rw (e, accepted-number)) (λ ok. rw ok (refl, refl, (length-set (set r 0 0) 1 0 ∙ length-set r 0 0 ∙ fits.eight)));
       effect = λ b h lengths typed p ok. rw ok (sets-mark _ b.vram refl (ready-reset (passed-test typed p.0)) refl lengths.vram typed.vram);
     }
 
@@ -104,11 +98,10 @@ pub draw-line-lawful : (line codes : List ℕ) (l : ℕ) → Lawful (described (
 unfolding block_entry vram_entry result_through block_through list_through
 draw-line-lawful line codes l =
     record {
-      refusal = λ b. refl;
-      can-refuse = λ c. (refl, (refl, (refl, tt)));
+      accepted = λ b ok. rw ok;
       only-from-c = nothing-more;
       refused = λ b e. rw e;
       not_entered = λ block b e. by_number _ (rw e);
-      entered = λ b fits n e. stores (described (Op.draw_line line codes l)) b fits 0 (lit< tt) refl (rw e) refl (λ m. rw m) (λ ok. rw ok fits.eight);
+      entered = λ b fits n e. stores (described (Op.draw_line line codes l)) b fits 0 (lit< tt) refl (λ r m. rw m) (rw (e, accepted-number)) (λ ok. rw ok (refl, refl, fits.eight));
       effect = λ b h lengths typed p ok. rw ok (changes-no-line _ refl refl (ready-line (passed-test typed p.1.0) (note_at b.chip.registers b.vram l)) refl refl);
     }

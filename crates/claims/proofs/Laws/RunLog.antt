@@ -2,23 +2,23 @@
 use Prim.Native.Nat.{ℕ, ◌+◌, ◌*◌, ◌/◌, ◌%◌, ◌<◌}
 use native.Mathlib.Omega.{arith}
 use native.Mathlib.Nat.{mod-add-div}
-use mathlib.Core.Path.{◌≡◌, refl, sym, ap, subst, ◌∙◌}
+use mathlib.Core.Path.{◌≡◌, refl, ap, subst, ◌∙◌}
 use mathlib.Core.Bool.{Bool, true, false, cond}
 use mathlib.Core.List.{List, [], ◌∷◌}
 use lib.Dec.{eqb, leb, lit<}
 use lib.ListN.{length}
-use borrow.Author.Tests.{eqb-true}
+use borrow.Author.Tests.{eqb-true, ne_eqb}
 use Rattle.chip.specs.State.{Bytes, Fits}
 use Rattle.chip.specs.Layout.{block_of, chip_of}
-use Rattle.chip.specs.Refusals.{slice_test, number_of, is_accepted, refusal_of, result_of, if_accepted}
+use Rattle.std.specs.Prelude.{Ok, Err}
+use Rattle.chip.specs.Refusals.{Outcome, slice_test, refusal_number, refusal_of, result_of, if_accepted, value_of}
 use Rattle.chip.specs.declared.state.Chip.{Chip}
 use Rattle.chip.specs.declared.refusal.Refusal.{Refusal}
-use Rattle.chip.specs.declared.refusal.Refusal.TheVariants.{Accepted}
 use Rattle.chip.proofs.Laws.Layout.{chip-block}
 use Rattle.chip.proofs.Laws.Lists.{bytes_take}
 use Rattle.chip.proofs.Laws.Ranges.{and_left, and_right}
 use Rattle.chip.proofs.Laws.Ready.{either}
-use Rattle.chip.proofs.Laws.Refusals.{AllPass, all-accepted, is-accepted, differ}
+use Rattle.chip.proofs.Laws.Refusals.{AllPass, all-accepted}
 use Rattle.chip.specs.TwoBytes.{low_first_at}
 use Rattle.port_log.specs.Format.{log_trailer_at, record_bytes}
 use Rattle.port_log.specs.Records.{operation_of, value_allowed, allowed, all_allowed, records_of}
@@ -28,11 +28,11 @@ use Rattle.port_log.specs.declared.records.Operation.{Operation}
 use Rattle.port_log.specs.declared.records.Operation.TheVariants.{DataWrite, ControlWrite, DataRead, StatusRead, DrawLine, EndOfDisplay, Reset}
 use Rattle.port_log.specs.declared.records.Record.{Record}
 use Rattle.port_log.specs.declared.running.Ran.{Ran}
-use Rattle.port_log.proofs.Laws.Tested.{ran-refusal, accepted-sound, accepted-log}
+use Rattle.port_log.proofs.Laws.Tested.{accepted-sound, accepted-log}
 use Rattle.port_log.proofs.Laws.Sound.{Sound, passes, sound-after, Values, values-bytes, run_sound, found-byte}
 use Rattle.birdcleft.specs.Calls.{result_through, block_through, list_through}
+use Rattle.birdcleft.proofs.Order.{slice_tested}
 use Rattle.birdcleft.specs.Logs.{outcome_size, run_entry, reported}
-use Rattle.birdcleft.proofs.Laws.{slice_tested}
 use Rattle.scanline.specs.Colours.{zero_codes}
 use Rattle.claims.specs.Bench.{Bench}
 use Rattle.claims.specs.Call.{Op}
@@ -40,7 +40,7 @@ use Rattle.claims.specs.Description.{Left, tests, of_ran, of_outcome, runs}
 use Rattle.claims.specs.Descriptions.{described}
 use Rattle.claims.specs.SingleCalls.{single_by}
 use Rattle.claims.proofs.Laws.Invariant.{Invariant, Effect, bench, keeps, makes-calls}
-use Rattle.claims.proofs.Laws.Lawful.{parts, bench_of, decoded_left, as_lent, entry_tests, Lawful}
+use Rattle.claims.proofs.Laws.Lawful.{parts, refusal_above, bench_of, decoded_left, as_lent, entry_tests, Lawful}
 use Rattle.claims.proofs.Laws.RecordCalls.{control-write-lawful, data-write-lawful, data-read-lawful, status-read-lawful, end-of-display-lawful, reset-lawful, draw-line-lawful}
 
 single-lawful : (op : Operation) (v : ℕ) (line codes : List ℕ) → Lawful (described (single_by op v line codes))
@@ -106,7 +106,7 @@ module _ (frame notes : List ℕ) where
   keeps-run i (r ∷ rs) t ok h long inv =
       let next = keeps-single t r (and_left (allowed r) (all_allowed rs) ok) h.0 long inv in
       let lined : length (after r t).line ≡ 256 = (sound-after (sound-on long inv) r h.0).line in
-      either (λ (e : End). Invariant (bench_on e.target)) (differs r (answer_to r t).value) _ _ next
+      either (λ (e : End). Invariant (bench_on e.target)) (differs r (value_of (answer_to r t).result)) _ _ next
       (keeps-run (i + 1) rs (after r t) (and_right (allowed r) (all_allowed rs) ok) h.1 lined next)
 
 -- The records of a log of bytes.
@@ -118,10 +118,7 @@ module _ (line log outcome : List ℕ) where
   abbrev op : Op
   op = Op.run_log line log outcome
 
-  abbrev accepts : Bench → Bool
-  accepts b = is_accepted (run_refusal b.chip b.vram b.map line log)
-
-  run-effect : (b : Bench) → Bytes log → AllPass (tests (described op) b) → refusal_of (tests (described op) b) ≡ Accepted → Effect false b (bench_of ((described op).directly b))
+  run-effect : (b : Bench) → Bytes log → AllPass (tests (described op) b) → refusal_of (tests (described op) b) ≡ Ok tt → Effect false b (bench_of ((described op).directly b))
   run-effect b bytes p ok =
       rw ok
       (makes-calls refl
@@ -129,19 +126,19 @@ module _ (line log outcome : List ℕ) where
       keeps-run b.frame b.notes 0 (records_of (record_bytes log)) (target b.chip b.vram b.map line) (accepted-log b.chip b.vram b.map line log ok).records (log-values log bytes) (eqb-true _ _ p.1.1.1.0) inv))
 
   -- From C, refused at entry: the result is 256 times the refusal number, and no number is read out of the outcome.
-  run-not-entered : (block : List ℕ) (b : Bench) → let n = refusal_of (entry_tests (described op) block b) in is_accepted n ≡ false → (described op).through_c block b ≡ as_lent (described op) (number_of n) block b
+  run-not-entered : (block : List ℕ) (b : Bench) → {r : Refusal} → refusal_of (entry_tests (described op) block b) ≡ Err r → (described op).through_c block b ≡ as_lent (described op) (refusal_number r) block b
   unfolding run_entry result_through block_through list_through
-  run-not-entered block b e =
-      let n : ℕ = number_of (refusal_of (entry_tests (described op) block b)) in
+  run-not-entered block b {r} e =
+      let n : ℕ = refusal_number r in
       let high : n * 256 / 256 ≡ n = omega arith in
       let low : n * 256 % 256 ≡ 0 = omega arith in
-      rw e (rw (high, low, e))
+      rw e (rw (high, low, ne_eqb n 0 (refusal_above r)))
 
   -- What a run from C leaves past the entry, and directly, by what the direct run hands back and leaves.
   abbrev left_from_c : Bench → Ran → List ℕ → List ℕ → List ℕ → Left (List ℕ)
   left_from_c b ran vram map drawn =
       runs b
-      (of_outcome (record { result = result_of (answer_of ran); block = if_accepted ran.refusal (block_of ran.chip) (block_of b.chip) }) (reported ran outcome))
+      (of_outcome (record { result = result_of (answer_of ran); block = if_accepted (answer_of ran).result (block_of ran.chip) (block_of b.chip) }) (reported ran outcome))
       vram map (drawn ∷ [])
 
   abbrev left_directly : Bench → Ran → List ℕ → List ℕ → List ℕ → Left Chip
@@ -150,7 +147,7 @@ module _ (line log outcome : List ℕ) where
   abbrev left_by : Bench → Chip → Left (List ℕ)
   left_by b c = left_from_c b (run_log c b.vram b.map line log) (run_vram c b.vram b.map line log) (run_map c b.vram b.map line log) (run_line c b.vram b.map line log)
 
-  entered-left : (b : Bench) → let block = block_of b.chip in is_accepted (refusal_of (entry_tests (described op) block b)) ≡ true → (described op).through_c block b ≡ left_by b (chip_of block)
+  entered-left : (b : Bench) → let block = block_of b.chip in refusal_of (entry_tests (described op) block b) ≡ Ok tt → (described op).through_c block b ≡ left_by b (chip_of block)
   unfolding run_entry result_through block_through list_through
   entered-left b e = rw e
 
@@ -171,17 +168,16 @@ module _ (line log outcome : List ℕ) where
         };
       }
 
-  refused-back : (b : Bench) (n : Refusal) (vram map drawn : List ℕ) → is_accepted n ≡ false → length b.chip.registers ≡ 8 → decoded_left (left_from_c b (refused_run b.chip n) vram map drawn) ≡ left_directly b (refused_run b.chip n) vram map drawn
-  refused-back b n vram map drawn e eight =
-      let block : List ℕ = block_of b.chip in
-      let both = parts (number_of n) 0 (lit< tt) in
+  refused-back : (b : Bench) (n : Refusal) (vram map drawn : List ℕ) → length b.chip.registers ≡ 8 → decoded_left (left_from_c b (refused_run b.chip n) vram map drawn) ≡ left_directly b (refused_run b.chip n) vram map drawn
+  refused-back b n vram map drawn eight =
+      let both = parts (refusal_number n) 0 (lit< tt) in
       let numbers : List ℕ = low_first_at (reported (refused_run b.chip n) outcome) 0 ∷ low_first_at (reported (refused_run b.chip n) outcome) 2 ∷ [] in
-      let state : chip_of (cond (is_accepted n) block block) ≡ b.chip = ap (λ (a : Bool). chip_of (cond a block block)) e ∙ chip-block b.chip eight in
-      let none : cond (eqb ((number_of n * 256 + 0) / 256) 0) numbers (0 ∷ 0 ∷ []) ≡ 0 ∷ 0 ∷ [] =
-      ap (λ (k : ℕ). cond (eqb k 0) numbers (0 ∷ 0 ∷ [])) both.0 ∙ ap (λ (a : Bool). cond a numbers (0 ∷ 0 ∷ [])) e in
+      let none : cond (eqb ((refusal_number n * 256 + 0) / 256) 0) numbers (0 ∷ 0 ∷ []) ≡ 0 ∷ 0 ∷ [] =
+      ap (λ (k : ℕ). cond (eqb k 0) numbers (0 ∷ 0 ∷ [])) both.0
+      ∙ ap (λ (a : Bool). cond a numbers (0 ∷ 0 ∷ [])) (ne_eqb (refusal_number n) 0 (refusal_above n)) in
       λ i.
       record {
-        state = state i;
+        state = chip-block b.chip eight i;
         vram = vram;
         map = map;
         frame = b.frame;
@@ -190,61 +186,43 @@ module _ (line log outcome : List ℕ) where
       }
 
   read_back : (b : Bench) → Fits b.chip → Bytes b.vram → Bytes log → decoded_left (left_by b b.chip) ≡ (described op).directly b
-  read_back b fits bytes log-bytes = by (accepts b) refl
+  read_back b fits bytes log-bytes = by n refl
     where
-      n : Refusal
+      n : Outcome
       n = run_refusal b.chip b.vram b.map line log
 
       e : End
       e = end_of b.chip b.vram b.map line log
 
-      vram : List ℕ
-      vram = run_vram b.chip b.vram b.map line log
-
-      map : List ℕ
-      map = run_map b.chip b.vram b.map line log
-
-      drawn : List ℕ
-      drawn = run_line b.chip b.vram b.map line log
-
-      ran : Bool → Ran
-      ran a = cond a (ran_of e) (refused_run b.chip n)
-
-      by : (a : Bool) → accepts b ≡ a → decoded_left (left_from_c b (ran (accepts b)) vram map drawn) ≡ left_directly b (ran (accepts b)) vram map drawn
-      by true ok =
-          let sound = accepted-sound b.chip b.vram b.map line log (is-accepted n ok) fits bytes in
+      by : (r : Outcome) → n ≡ r → decoded_left (left_by b b.chip) ≡ (described op).directly b
+      by (Ok u) ok =
+          let sound = accepted-sound b.chip b.vram b.map line log ok fits bytes in
           let values = log-values log log-bytes in
           let small = found-byte 0 (records_of (record_bytes log)) sound values in
           let eight = (run_sound 0 (records_of (record_bytes log)) sound values).ready.fits.eight in
-          (λ i. decoded_left (left_from_c b (ran (ok i)) vram map drawn))
-          ∙ accepted-back b e vram map drawn small eight
-          ∙ (λ i. left_directly b (ran (sym ok i)) vram map drawn)
-      by false refuses =
-          (λ i. decoded_left (left_from_c b (ran (refuses i)) vram map drawn))
-          ∙ refused-back b n vram map drawn refuses fits.eight
-          ∙ (λ i. left_directly b (ran (sym refuses i)) vram map drawn)
+          rw ok (accepted-back b e e.target.vram e.target.map e.target.line small eight)
+      by (Err r) refuses = rw refuses (refused-back b r b.vram b.map line fits.eight)
 
-  run-entered : (b : Bench) → Fits b.chip → Bytes b.vram × Bytes log → let block = block_of b.chip in is_accepted (refusal_of (entry_tests (described op) block b)) ≡ true → decoded_left ((described op).through_c block b) ≡ (described op).directly b
+  run-entered : (b : Bench) → Fits b.chip → Bytes b.vram × Bytes log → let block = block_of b.chip in refusal_of (entry_tests (described op) block b) ≡ Ok tt → decoded_left ((described op).through_c block b) ≡ (described op).directly b
   run-entered b fits bytes e =
       ap decoded_left (entered-left b e)
       ∙ (λ i. decoded_left (left_by b (chip-block b.chip fits.eight i)))
       ∙ read_back b fits bytes.0 bytes.1
 
   -- The outcome's length gives 2, as that of the slice for lines does; VRAM's, the one before it in the order, is not the call's own.
-  outcome-first : is_accepted (refusal_of (slice_test outcome_size outcome ∷ [])) ≡ false → refusal_of (slice_test outcome_size outcome ∷ run_own_tests line log) ≡ refusal_of (slice_test outcome_size outcome ∷ [])
-  outcome-first = by (eqb (length outcome) outcome_size)
+  outcome-first : {r : Refusal} → refusal_of (slice_test outcome_size outcome ∷ []) ≡ Err r → refusal_of (slice_test outcome_size outcome ∷ run_own_tests line log) ≡ Err r
+  outcome-first {r} = by (eqb (length outcome) outcome_size)
     where
-      by : (o : Bool) → is_accepted (refusal_of (slice_tested o ∷ [])) ≡ false → refusal_of (slice_tested o ∷ run_own_tests line log) ≡ refusal_of (slice_tested o ∷ [])
-      by true e = absurd (differ e)
-      by false e = refl
+      by : (o : Bool) → refusal_of (slice_tested o ∷ []) ≡ Err r → refusal_of (slice_tested o ∷ run_own_tests line log) ≡ Err r
+      by true e = cc
+      by false e = e
 
   pub run-lawful : Lawful (described op)
   run-lawful =
       record {
-        refusal = λ b. ap number_of (ran-refusal b.chip b.vram b.map line log);
-        can-refuse = λ c. (refl, (refl, (refl, (refl, (refl, tt)))));
-        only-from-c = record { can-refuse = (refl, tt); first = λ c. outcome-first; numbers_fit = λ vram bytes h. (bytes, h) };
+        accepted = λ b ok. rw ok;
         refused = λ b e. rw e;
+        only-from-c = record { first = λ c. outcome-first; numbers_fit = λ vram bytes h. (bytes, h) };
         not_entered = run-not-entered;
         entered = run-entered;
         effect = λ b h lengths typed p ok. run-effect b h p ok;

@@ -3,21 +3,44 @@ use Prim.Native.Nat.{ℕ, zero, suc, ◌+◌, ◌-◌, ◌*◌, ◌/◌, ◌%◌
 use native.Mathlib.Nat.{le_step, lt-suc_self}
 use native.Mathlib.Omega.{arith}
 use mathlib.Core.Path.{◌≡◌, refl, sym, ap, ap₂, ◌∙◌}
-use mathlib.Core.Bool.{Bool, true, false, not, ◌&&◌}
-use mathlib.Core.List.{List}
+use mathlib.Core.Bool.{Bool, true, false, not, ◌&&◌, ◌||◌}
+use mathlib.Core.List.{List, [], ◌∷◌}
 use lib.Dec.{eqb}
 use lib.ListN.{length, get_or, take, drop, length-drop}
 use lib.Seq.{get_or-take, get_or-drop, length-take-le}
 use Rattle.chip.specs.Bits.{bit}
 use Rattle.chip.specs.Map.{is_dirty}
-use Rattle.chip.specs.Ranges.{all_below}
+use Rattle.std.specs.List.{list_any}
+use Rattle.chip.specs.Ranges.{all_below, any_below}
 use Rattle.chip.specs.State.{Bytes}
 use Rattle.chip.proofs.Laws.Bits.{bit-zero, any-bit}
-use Rattle.chip.proofs.Laws.Ranges.{one_holds, none-holds, any-gives}
+use Rattle.chip.proofs.Laws.Ranges.{one_holds, none-holds, any-gives, any-first, any_same}
 use Rattle.chip.proofs.Laws.Refusals.{differ}
 use Rattle.dirty.specs.Clear.{is_clear}
 use Rattle.dirty.specs.Plane.{part_dirty}
 use Rattle.dirty.proofs.Laws.Clear.{everywhere}
+
+-- the bytes from a place on
+module _ (xs : List ℕ) (from n : ℕ) where
+  pub sliced : (i : ℕ) → i < n → get_or (take (from + n - from) (drop from xs)) i 0 ≡ get_or xs (from + i) 0
+  sliced i h =
+      let inside : i < from + n - from = omega arith in
+      rw (get_or-take, get_or-drop)
+
+  pub slice-long : from + n ≤ length xs → length (take (from + n - from) (drop from xs)) ≡ n
+  slice-long h = length-take-le _ (drop from xs) (rw length-drop (omega arith)) ∙ omega arith
+
+  -- a test of them
+  pub any-sliced : (p : ℕ → Bool) → from + n ≤ length xs → any_below (length (take (from + n - from) (drop from xs))) (λ i. p (get_or (take (from + n - from) (drop from xs)) i 0)) ≡ any_below n (λ i. p (get_or xs (from + i) 0))
+  any-sliced p h =
+      ap (λ (m : ℕ). any_below m (λ i. p (get_or (take (from + n - from) (drop from xs)) i 0))) (slice-long h)
+      ∙ any_same n _ _ (λ i below. ap p (sliced i below))
+
+-- a test of a list's bytes, by their places
+pub any-places : (p : ℕ → Bool) (l : List ℕ) → list_any p l ≡ any_below (length l) (λ k. p (get_or l k 0))
+unfolding any_below
+any-places p [] = refl
+any-places p (x ∷ l) = ap (λ (b : Bool). p x || b) (any-places p l) ∙ sym (any-first (length l) (λ k. p (get_or (x ∷ l) k 0)))
 
 -- a byte that is not 0 has one of eight bits
 pub some-bit : (x : ℕ) → x < 256 → eqb x 0 ≡ false → (b : Bool) → ((k : ℕ) → k < 8 → bit k x ≡ true → b ≡ true) → b ≡ true

@@ -19,6 +19,9 @@ use Rattle.chip.proofs.Laws.Ranges.{or-false, none-holds, any-first, any_same, a
 use Rattle.fetches.specs.Fetch.{Fetch, fetched, each, any_dirty}
 use Rattle.fetches.proofs.Laws.{fetched-each, dirty-append}
 use Rattle.planes.specs.Cells.{cells_in, name_address, pattern_address, colour_address, shape_of, cell_of, plane_of}
+use Rattle.dirty.specs.declared.tables.Table.{Table}
+use Rattle.dirty.specs.declared.tables.Table.TheVariants.{Patterns, Colours}
+use Rattle.dirty.specs.Tables.{table_of, cells_dirty}
 use Rattle.dirty.specs.Plane.{table_dirty, names_dirty, patterns_dirty, colour_dirty, colours_dirty, third_of, byte_shown}
 
 -- one of a row of descriptions fetches a dirty byte
@@ -116,7 +119,7 @@ module _ (r vram map : List ℕ) where
 
   module _ (bytes : Bytes vram) (l : ℕ) (low : l < 192) where
     -- a table without a dirty byte has none for a line's names
-    pub no-pattern : (m : Mode) → table_dirty m patterns r map ≡ false → patterns_dirty m r vram map l ≡ false
+    no-pattern : (m : Mode) → table_dirty m patterns r map ≡ false → patterns_dirty m r vram map l ≡ false
     unfolding pattern_address
     no-pattern m none = none-holds (cells_in m) (λ i. is_dirty map (pattern_address m r l (get_or vram (name_address m r l i) 0))) (λ i h. by m none i h (get_or vram (name_address m r l i) 0) (bytes (name_address m r l i)))
       where
@@ -127,7 +130,7 @@ module _ (r vram map : List ℕ) where
         by Multicolor none i h name hn = any-fails 2048 (λ j. is_dirty map (base Multicolor patterns r + j)) none (8 * name + l / 4 % 8) (omega arith)
         by Text none i h name hn = any-fails 2048 (λ j. is_dirty map (base Text patterns r + j)) none (8 * name + l % 8) (omega arith)
 
-    pub no-colour : (m : Mode) → table_dirty m colours r map ≡ false → colours_dirty m r vram map l ≡ false
+    no-colour : (m : Mode) → table_dirty m colours r map ≡ false → colours_dirty m r vram map l ≡ false
     unfolding colour_address
     no-colour m none = none-holds (cells_in m) (λ i. colour_dirty m r map l (get_or vram (name_address m r l i) 0)) (λ i h. by m none (get_or vram (name_address m r l i) 0) (bytes (name_address m r l i)))
       where
@@ -137,3 +140,7 @@ module _ (r vram map : List ℕ) where
         by GraphicsII none name hn = any-fails 6144 (λ j. is_dirty map (base GraphicsII colours r + j)) none (l / 64 * 2048 + 8 * name + l % 8) (omega arith)
         by Multicolor none name hn = refl
         by Text none name hn = refl
+
+    pub none-dirty : (m : Mode) (t : Table) → table_dirty m (table_of t) r map ≡ false → cells_dirty m t r vram map l ≡ false
+    none-dirty m Patterns none = no-pattern m none
+    none-dirty m Colours none = no-colour m none

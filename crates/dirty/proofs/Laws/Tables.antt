@@ -11,6 +11,9 @@ use Rattle.chip.specs.declared.mode.Mode.{Mode}
 use Rattle.chip.specs.declared.mode.Mode.TheVariants.{Blank, GraphicsI, GraphicsII, Multicolor, Text}
 use Rattle.chip.proofs.Laws.Tables.{at-most-mask}
 use Rattle.planes.specs.Cells.{cells_in}
+use Rattle.dirty.specs.declared.tables.Table.{Table}
+use Rattle.dirty.specs.declared.tables.Table.TheVariants.{Patterns, Colours}
+use Rattle.dirty.specs.Tables.{table_of}
 use Rattle.dirty.specs.Plane.{third_of, byte_shown}
 
 -- a pattern has eight bytes
@@ -29,7 +32,7 @@ module _ (r : List ℕ) (ok : masked r ≡ true) where
   row_inside Multicolor row h = omega (arith, at-most-mask r ok 2 (lit< tt))
   row_inside Text row h = omega (arith, at-most-mask r ok 2 (lit< tt))
 
-  pub patterns-inside : (m : Mode) → base m patterns r + size m patterns ≤ 16384
+  patterns-inside : (m : Mode) → base m patterns r + size m patterns ≤ 16384
   patterns-inside Blank = omega (arith, at-most-mask r ok 4 (lit< tt))
   patterns-inside GraphicsI = omega (arith, at-most-mask r ok 4 (lit< tt))
   patterns-inside GraphicsII = omega (arith, at-most-mask r ok 4 (lit< tt))
@@ -42,6 +45,10 @@ module _ (r : List ℕ) (ok : masked r ≡ true) where
   colours-inside GraphicsII = omega (arith, at-most-mask r ok 3 (lit< tt))
   colours-inside Multicolor = omega (arith, at-most-mask r ok 3 (lit< tt))
   colours-inside Text = omega (arith, at-most-mask r ok 3 (lit< tt))
+
+  pub table-inside : (m : Mode) (t : Table) → base m (table_of t) r + size m (table_of t) ≤ 16384
+  table-inside m Patterns = patterns-inside m
+  table-inside m Colours = colours-inside m
 
   -- the patterns of 256 names, in the third of a row
   pub third-inside : (m : Mode) (a row : ℕ) → 8 * a ≡ base m patterns r → row < 24 → a + third_of m row + 256 ≤ 2048

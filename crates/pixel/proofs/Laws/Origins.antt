@@ -1,13 +1,10 @@
--- How long an origin's text is at most, and which text its code gives.
-use Prim.Native.Nat.{ℕ, ◌≤◌, ◌<◌}
-use native.Mathlib.Nat.{add-zero}
+-- How long an origin's text is at most.
+use Prim.Native.Nat.{ℕ, ◌≤◌}
 use native.Mathlib.Omega.{arith}
-use mathlib.Core.Path.{◌≡◌, sym, ap, ◌∙◌}
 use mathlib.Core.Bool.{Bool, true, false, cond}
-use mathlib.Core.List.{List, [], ◌++◌}
+use mathlib.Core.List.{List}
 use lib.Dec.{eqb, ltb}
 use lib.ListN.{length, take, drop, length-append, take-append-drop}
-use borrow.Author.Tests.{lt-ltb, le-ltb, ne_eqb}
 use Rattle.chip.specs.Modes.{mode_of}
 use Rattle.chip.specs.declared.mode.Mode.{Mode}
 use Rattle.chip.specs.declared.mode.Mode.TheVariants.{Blank, GraphicsI, GraphicsII, Multicolor, Text}
@@ -15,12 +12,8 @@ use Rattle.planes.specs.Addresses.{addresses_at}
 use Rattle.planes.specs.declared.addresses.CellAddresses.{CellAddresses}
 use Rattle.sprites.specs.Scan.{attribute_address}
 use Rattle.text.proofs.Laws.Numbers.{length-long}
-use Rattle.text.proofs.Laws.Put.{Put}
+use Rattle.text.proofs.Laws.Put.{Put, put-put}
 use Rattle.pixel.specs.Origins.{sprite, attributes_at, name_at, pattern_at, colours_at, register_colours, backdrop, by_default, external, labelled, sprite_text, pattern_then_colours, tables_text, plane_text, source_text}
-
--- no text, put in anywhere
-pub put-none : (i : ℕ) (l : List ℕ) → Put l i [] i l
-put-none i l = (sym (add-zero i), sym (ap (λ (k : ℕ). take i l ++ drop k l) (add-zero i) ∙ take-append-drop i l))
 
 sprite-short : (r : List ℕ) (n : ℕ) → length (sprite_text r n) ≤ 40
 unfolding sprite_text
@@ -58,22 +51,5 @@ module _ (r vram : List ℕ) (l x code : ℕ) where
       by false false false true = omega arith
       by false false false false = omega arith
 
-  pub from-sprite : code < 32 → source_text r vram l x code ≡ sprite_text r code
-  unfolding source_text
-  from-sprite h = rw (lt-ltb code 32 h)
-
-  pub from-plane : code ≡ 32 → source_text r vram l x code ≡ plane_text r vram l x
-  unfolding source_text
-  from-plane e = rw e
-
-  pub from-backdrop : code ≡ 33 → source_text r vram l x code ≡ backdrop
-  unfolding source_text
-  from-backdrop e = rw e
-
-  pub from-none : code ≡ 34 → source_text r vram l x code ≡ by_default
-  unfolding source_text
-  from-none e = rw e
-
-  pub from-outside : 32 ≤ code → (code ≡ 32 → ⊥) → (code ≡ 33 → ⊥) → (code ≡ 34 → ⊥) → source_text r vram l x code ≡ external
-  unfolding source_text
-  from-outside h a b c = rw (le-ltb code 32 h, ne_eqb code 32 a, ne_eqb code 33 b, ne_eqb code 34 c)
+-- one text behind another, and how long they are
+pub ruleset texts = (put-put, length-long, length-append, source-short)

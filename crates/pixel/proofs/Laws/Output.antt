@@ -7,20 +7,22 @@ use mathlib.Core.List.{List, [], ◌∷◌, ◌++◌}
 use lib.Dec.{leb, lit<}
 use lib.ListN.{length, length-append}
 use borrow.Author.Tests.{eqb-true, leb-true, leb-false, le-leb, lt-leb}
-use Rattle.chip.specs.Refusals.{number_of, is_accepted, if_accepted, vram_test, state_test, refusal_of}
+use Rattle.std.specs.Prelude.{Ok}
+use Rattle.chip.specs.Refusals.{Outcome, number_of, is_accepted, if_accepted, vram_test, state_test, refusal_of}
 use Rattle.chip.specs.Ports.{cleared_vram}
 use Rattle.chip.specs.State.{masked, power_up_state}
 use Rattle.chip.specs.declared.state.Chip.{Chip}
-use Rattle.chip.specs.declared.refusal.Refusal.{Refusal}
-use Rattle.chip.specs.declared.refusal.Refusal.TheVariants.{Accepted, LineNumber, ColumnNumber}
-use Rattle.chip.proofs.Laws.Refusals.{the-new, all_pass}
+use Rattle.chip.specs.declared.refusal.Refusal.TheVariants.{LineNumber, ColumnNumber}
+use Rattle.chip.proofs.Laws.Refusals.{the-new, the-value, value-given, all_pass}
 use Rattle.chip.proofs.Laws.State.{masked-in}
-use Rattle.point.specs.Calls.{point_colour, point_origin, point_tests, point_refusal, point}
+use Rattle.point.specs.Calls.{point_colour, point_origin, point_tests, point_refusal, point_at}
+use Rattle.point.specs.declared.numbers.Point.{Point}
 use Rattle.snapshot.specs.Calls.{read_refusal, read_snapshot, read_vram}
 use Rattle.text.specs.Lines.{refused_text}
 use Rattle.text.specs.Numbers.{decimal}
 use Rattle.text.specs.Output.{output_of}
 use Rattle.text.proofs.Laws.Numbers.{length-decimal}
+use Rattle.text.proofs.Laws.Reading.{refusal-given}
 use Rattle.pixel.specs.Arguments.{number_in, rightly_called}
 use Rattle.pixel.specs.Names.{name_of}
 use Rattle.pixel.specs.Origins.{origin_text}
@@ -33,29 +35,40 @@ unfolding colour_text
 colour-short colour =
     omega (arith, length-append (decimal colour) (32 ∷ (name_of colour ++ (10 ∷ []))), length-append (name_of colour) (10 ∷ []), (length-decimal colour).0, name-short colour)
 
+-- how long a colour's parts are
+pub ruleset colours = (length-append, length-decimal, name-short)
+
 -- the line of a refusal, where there is one
-pub refused-line : {r s : Refusal} (text : List ℕ) → s ≡ r → is_accepted r ≡ false → refused_text (number_of r) ≡ if_accepted s text (refused_text (number_of s))
+pub refused-line : {r s : Outcome} (text : List ℕ) → s ≡ r → is_accepted r ≡ false → refused_text (number_of r) ≡ if_accepted s text (refused_text (number_of s))
 refused-line {r} text e n =
-    sym (ap (λ (q : Refusal). if_accepted q text (refused_text (number_of q))) e ∙ ap (λ (b : Bool). cond b text (refused_text (number_of r))) n)
+    sym (ap (λ (q : Outcome). if_accepted q text (refused_text (number_of q))) e ∙ ap (λ (b : Bool). cond b text (refused_text (number_of r))) n)
 
 module _ (c : Chip) (vram : List ℕ) (l x : ℕ) where
-  pub point-refused : {r : Refusal} → point_refusal c vram l x ≡ r → is_accepted r ≡ false → refused_text (number_of r) ≡ point_text l x c vram
+  pub point-refused : {r : Outcome} → point_refusal c vram l x ≡ r → is_accepted r ≡ false → refused_text (number_of r) ≡ point_text l x c vram
   unfolding point_text
   point-refused e n = refused-line (shown_text c.registers vram l x) e n
 
-  module _ (e : point_refusal c vram l x ≡ Accepted) where
-    pub point-shown : colour_text (point c vram l x).colour ++ origin_text c.registers vram l x (point c vram l x).origin ≡ point_text l x c vram
+  module _ {p : Point} (e : point_at c vram l x ≡ Ok p) where
+    abbrev found : Point
+    found = record { colour = point_colour c.registers vram l x; origin = point_origin c.registers vram l x }
+
+    accepted : point_refusal c vram l x ≡ Ok tt
+    accepted = value-given (point_refusal c vram l x) found e
+
+    point-is : p ≡ found
+    point-is = let k : Ok p ≡ Ok found = sym e ∙ the-value accepted found in cc
+
+    pub point-shown : colour_text p.colour ++ origin_text c.registers vram l x p.origin ≡ point_text l x c vram
     unfolding shown_text point_text
     point-shown =
-        let r = c.registers in
-        ap₂ (λ (colour origin : ℕ). colour_text colour ++ origin_text r vram l x origin) (the-new e (point_colour r vram l x) 0) (the-new e (point_origin r vram l x) 0)
-        ∙ sym (the-new e (shown_text r vram l x) (refused_text (number_of (point_refusal c vram l x))))
+        ap (λ (q : Point). colour_text q.colour ++ origin_text c.registers vram l x q.origin) point-is
+        ∙ sym (the-new accepted (shown_text c.registers vram l x) (refused_text (number_of (point_refusal c vram l x))))
 
     -- what an accepted point's numbers and bytes are
     pub point-given : (masked c.registers ≡ true) × (length vram ≡ 16384) × (l < 192)
     point-given =
-        let p = all_pass (point_tests c vram l x) (refl, (refl, (refl, (refl, tt)))) (ap is_accepted e) in
-        (masked-in c p.1.0, eqb-true (length vram) 16384 p.0, omega (arith, leb-true l 191 p.1.1.0))
+        let t = all_pass (point_tests c vram l x) (ap is_accepted accepted) in
+        (masked-in c t.1.0, eqb-true (length vram) 16384 t.0, omega (arith, leb-true l 191 t.1.1.0))
 
 -- a number is as much above a bound when it is capped at a limit further up
 above : (bound limit n : ℕ) → bound < limit → leb (min n limit) bound ≡ leb n bound
@@ -81,7 +94,7 @@ module _ (c : Chip) (vram : List ℕ) (l x : ℕ) where
     where
       by : (b : Bool) → is_accepted (point_refusal c vram l x) ≡ b → point_text (min l limit) (min x limit) c vram ≡ point_text l x c vram
       by true e =
-          let p = all_pass (point_tests c vram l x) (refl, (refl, (refl, (refl, tt)))) e in
+          let p = all_pass (point_tests c vram l x) e in
           let low = leb-true l 191 p.1.1.0 in
           let near = leb-true x 255 p.1.1.1.0 in
           let line : min l limit ≡ l = omega arith in
@@ -101,12 +114,12 @@ module _ (argc : ℕ) (first second file : List ℕ) where
     shows = sym (ap (λ (b : Bool). cond b (output_of (point_text (number_in first) (number_in second)) file) usage_text) right)
 
     -- a file that is refused
-    pub file-refused : {r : Refusal} → read_refusal cleared_vram file ≡ r → is_accepted r ≡ false → refused_text (number_of r) ≡ pixel_output argc first second file
+    pub file-refused : {r : Outcome} → read_refusal cleared_vram file ≡ r → is_accepted r ≡ false → refused_text (number_of r) ≡ pixel_output argc first second file
     unfolding output_of
     file-refused e n = refused-line (point_text (number_in first) (number_in second) (read_snapshot power_up_state cleared_vram file).chip (read_vram cleared_vram file)) e n ∙ shows
 
     -- and one that is not: by its numbers, and by those that the code has
-    module _ (e : read_refusal cleared_vram file ≡ Accepted) where
+    module _ (e : read_refusal cleared_vram file ≡ Ok tt) where
       abbrev chip : Chip
       chip = (read_snapshot power_up_state cleared_vram file).chip
 
@@ -119,3 +132,8 @@ module _ (argc : ℕ) (first second file : List ℕ) where
 
       pub capped-point-written : point_text (min (number_in first) limit) (min (number_in second) limit) chip vram ≡ pixel_output argc first second file
       capped-point-written = capped-point chip vram (number_in first) (number_in second) ∙ point-written
+
+-- what the functions that write it are proved by
+pub ruleset points = (length-append, colour-short, point-refused, refusal-given, point-shown, point-given)
+
+pub ruleset whole = (usage-written, value-given, capped-point-written)

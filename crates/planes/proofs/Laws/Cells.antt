@@ -2,17 +2,16 @@
 use Prim.Native.Nat.{ℕ, ◌+◌, ◌*◌, ◌/◌, ◌≤◌, ◌<◌}
 use native.Mathlib.Nat.{not-suc-le-zero}
 use native.Mathlib.Omega.{arith}
-use mathlib.Core.Path.{◌≡◌, refl, sym, ap}
+use mathlib.Core.Path.{◌≡◌, refl, ap}
 use mathlib.Core.Bool.{true}
 use mathlib.Core.List.{List}
 use lib.Dec.{lit<}
 use Rattle.chip.specs.State.{vram_size, masked}
 use Rattle.chip.specs.Tables.{names, patterns, colours, size}
-use Rattle.chip.proofs.Laws.Refusals.{differ}
 use Rattle.chip.proofs.Laws.Tables.{inside}
 use Rattle.chip.specs.declared.mode.Mode.{Mode}
 use Rattle.chip.specs.declared.mode.Mode.TheVariants.{Blank, GraphicsI, GraphicsII, Multicolor, Text}
-use Rattle.planes.specs.Cells.{cells_in, cell_width, is_multicolor, margin, name_address, pattern_address, colour_address}
+use Rattle.planes.specs.Cells.{cells_in, cell_width, margin, name_address, pattern_address, colour_address}
 
 -- a cell's name is one of its name table's
 pub name-within : (m : Mode) (l i : ℕ) → l < 192 → i < cells_in m → l / 8 * cells_in m + i < size m names
@@ -86,13 +85,6 @@ text-alone Text h = refl
 pub eight-or-six : (m : Mode) → (cell_width m ≡ 8 → ⊥) → cell_width m ≡ 6
 eight-or-six m h = ap cell_width (text-alone m h)
 
-pub multicolor-alone : (m : Mode) → is_multicolor m ≡ true → m ≡ Multicolor
-multicolor-alone Multicolor h = refl
-multicolor-alone Blank h = absurd (differ (sym h))
-multicolor-alone GraphicsI h = absurd (differ (sym h))
-multicolor-alone GraphicsII h = absurd (differ (sym h))
-multicolor-alone Text h = absurd (differ (sym h))
-
 -- cells of eight columns begin at column 0
 pub no-margin : (m : Mode) → cell_width m ≡ 8 → margin m ≡ 0
 no-margin Blank h = refl
@@ -100,3 +92,6 @@ no-margin GraphicsI h = refl
 no-margin GraphicsII h = refl
 no-margin Multicolor h = refl
 no-margin Text h = omega arith
+
+-- where a cell's bytes stand
+pub ruleset addresses = (name-inside, pattern-inside, colours-inside)

@@ -33,8 +33,8 @@ one_of Multicolor x h = omega arith
 one_of Text x h = omega arith
 
 -- it is one of the line's cells
-pub cell-one : (m : Mode) (x : ℕ) → in_cells m x ≡ true → cell_at m x < cells_in m
-cell-one m x e = one_of m x (before-end m x e)
+pub cell_one : (m : Mode) (x : ℕ) → in_cells m x ≡ true → cell_at m x < cells_in m
+cell_one m x e = one_of m x (before-end m x e)
 
 remainder : (m : Mode) (d : ℕ) → d % cell_width m < 8
 remainder Blank d = omega arith
@@ -53,7 +53,7 @@ module _ (m : Mode) (r : List ℕ) (l : ℕ) (vram : List ℕ) (x : ℕ) where
   read-alone = by (in_cells m x) refl
     where
       by : (b : Bool) → in_cells m x ≡ b → cell_colour m (value (cell_holding m r l x) vram) x ≡ cell_colour m (get_or (value (plane_of m r l) vram) (cell_at m x) no_cell) x
-      by true e = rw (e, cell-read m r l vram (cell_at m x) (cell-one m x e))
+      by true e = rw (e, cell-read m r l vram (cell_at m x) (cell_one m x e))
       by false e = rw e
 
   pub fetched-alone : Among (fetched (cell_holding m r l x) vram) (fetched (plane_of m r l) vram)
@@ -61,5 +61,5 @@ module _ (m : Mode) (r : List ℕ) (l : ℕ) (vram : List ℕ) (x : ℕ) where
   fetched-alone = by (in_cells m x) refl
     where
       by : (b : Bool) → in_cells m x ≡ b → Among (fetched (cell_holding m r l x) vram) (fetched (plane_of m r l) vram)
-      by true e = rw e (rw (zero-add) at (each-among (cell_of m r l) vram 0 (cells_in m) (cell_at m x) (cell-one m x e)))
+      by true e = rw e (rw (zero-add) at (each-among (cell_of m r l) vram 0 (cells_in m) (cell_at m x) (cell_one m x e)))
       by false e = rw e (λ a is. absurd (Memᴰ.not-nil is))

@@ -1,6 +1,6 @@
 -- The plane's colour inside and outside of the cells, for every mode at once.
 use Prim.Native.Nat.{ℕ, ◌+◌, ◌*◌, ◌≤◌, ◌<◌}
-use native.Mathlib.Nat.{zero-add}
+use native.Mathlib.Nat.{zero-add, zero-mul, add-zero}
 use native.Mathlib.Omega.{arith}
 use mathlib.Core.Path.{◌≡◌, ap, ◌∙◌}
 use mathlib.Core.List.{List}
@@ -49,24 +49,31 @@ module _ (f : ℕ → ℕ) (m : Mode) (r : List ℕ) (l : ℕ) (vram : List ℕ)
   abbrev pub by_plane : ℕ → ℕ
   by_plane x = f (plane_colour m (value (plane_of m r l) vram) x)
 
-  -- before the first cell
-  pub shown-none : {line : List ℕ} → line ≡ replicate 256 (f 0) → Shown line by_plane (f 0) (margin m)
+  -- the cells before cell i
+  abbrev pub ShownCells : List ℕ → ℕ → Type 0
+  ShownCells line i = Shown line by_plane (f 0) (margin m + i * cell_width m)
+
+  pub shown-none : {line : List ℕ} → line ≡ replicate 256 (f 0) → ShownCells line 0
   shown-none e =
-      record {
+      rw (zero-mul, add-zero)
+      (record {
         long = ap length e ∙ length-replicate 256 (f 0);
         done = λ x h. rw (e, left-of-cells m (value (plane_of m r l) vram) x h) (get_or-replicate 256 x (f 0) 0 (omega (arith, columns-within m)));
         rest = λ x h below. rw e (get_or-replicate 256 x (f 0) 0 below);
-      }
+      })
 
   -- one cell more
-  pub shown-cell : {line new : List ℕ} {at : ℕ} (i : ℕ) → i < cells_in m → at ≡ margin m + i * cell_width m → Shown line by_plane (f 0) at → Painted new line at (cell_width m) (λ k. f (pick (value (cell_of m r l i) vram) k)) → Shown new by_plane (f 0) (at + cell_width m)
-  shown-cell {line} {new} {at} i h e s p = shown-more same s p
+  pub shown-cell : {line new : List ℕ} {i : ℕ} → i < cells_in m → ShownCells line i → Painted new line (margin m + i * cell_width m) (cell_width m) (λ k. f (pick (value (cell_of m r l i) vram) k)) → ShownCells new (i + 1)
+  shown-cell {line} {new} {i} h s p = rw next (shown-more same s p)
     where
-      same : (k : ℕ) → k < cell_width m → f (pick (value (cell_of m r l i) vram) k) ≡ by_plane (at + k)
+      next : margin m + (i + 1) * cell_width m ≡ margin m + i * cell_width m + cell_width m
+      next = omega arith
+
+      same : (k : ℕ) → k < cell_width m → f (pick (value (cell_of m r l i) vram) k) ≡ by_plane (margin m + i * cell_width m + k)
       same k hk =
-          let c : Counted m (at + k) i k = record { cell = h; pixel = hk; column = omega arith } in
-          rw (in_cell m (value (plane_of m r l) vram) (at + k) i k c, cell-read m r l vram i h)
+          let c : Counted m (margin m + i * cell_width m + k) i k = record { cell = h; pixel = hk; column = omega arith } in
+          rw (in_cell m (value (plane_of m r l) vram) (margin m + i * cell_width m + k) i k c, cell-read m r l vram i h)
 
   -- all cells
-  pub shown-plane : {line : List ℕ} → Shown line by_plane (f 0) (margin m + cells_in m * cell_width m) → line ≡ tabulate 256 by_plane
+  pub shown-plane : {line : List ℕ} → ShownCells line (cells_in m) → line ≡ tabulate 256 by_plane
   shown-plane s = shown-all {colour = by_plane} {behind = f 0} (λ x h. rw (right-of-cells m (value (plane_of m r l) vram) x h)) s

@@ -10,11 +10,11 @@ use borrow.Author.Tests.{eq-eqb}
 use Rattle.chip.specs.Bits.{set_bit}
 use Rattle.chip.specs.Calls.{data_write_tests, control_write_tests, data_read_tests, status_read_tests, end_of_display_tests, reset_tests}
 use Rattle.chip.specs.State.{Bytes}
-use Rattle.chip.specs.Refusals.{Test, refusal_of, is_accepted}
+use Rattle.chip.specs.Refusals.{Test, refusal_of, is_accepted, value_of}
 use Rattle.chip.specs.declared.state.Chip.{Chip}
 use Rattle.chip.proofs.Laws.Lists.{length-tabulate}
-use Rattle.chip.proofs.Laws.Ready.{Ready, ready-control, ready-written, ready_read, ready-status-read, ready-ended, ready-reset, either, either-byte}
-use Rattle.chip.proofs.Laws.Refusals.{AllPass}
+use Rattle.chip.proofs.Laws.Ready.{Ready, ready-control, ready-written, ready_read, ready-status-read, ready-ended, ready-reset, either}
+use Rattle.chip.proofs.Laws.Refusals.{AllPass, given-byte}
 use Rattle.chip.proofs.Laws.Registers.{bytes-set}
 use Rattle.scanline.specs.Calls.{note_at}
 use Rattle.scanline.specs.Colours.{draw_colours_tests}
@@ -99,17 +99,17 @@ module _ {t : Target} (s : Sound t) where
   pub sound-after : (r : Record) → r.value < 256 → Sound (after r t)
   sound-after r h = after-by (operation_of r.operation) r.value h
 
-  value-by : (op : Operation) (v : ℕ) → (answer_by op v t).value < 256
+  value-by : (op : Operation) (v : ℕ) → value_of (answer_by op v t).result < 256
   unfolding answer_by
-  value-by DataWrite v = either-byte (accepts DataWrite v) 0 0 (λ _. lit< tt) (lit< tt)
-  value-by ControlWrite v = either-byte (accepts ControlWrite v) 0 0 (λ _. lit< tt) (lit< tt)
-  value-by DataRead v = either-byte (accepts DataRead v) t.chip.buffer 0 (λ _. s.ready.fits.buffer) (lit< tt)
-  value-by StatusRead v = either-byte (accepts StatusRead v) t.chip.status 0 (λ _. s.ready.fits.status) (lit< tt)
-  value-by DrawLine v = either-byte (accepts DrawLine v) 0 0 (λ _. lit< tt) (lit< tt)
-  value-by EndOfDisplay v = either-byte (accepts EndOfDisplay v) 0 0 (λ _. lit< tt) (lit< tt)
-  value-by Reset v = either-byte (accepts Reset v) 0 0 (λ _. lit< tt) (lit< tt)
+  value-by DataWrite v = given-byte (refusal_of (tests_by DataWrite v t)) 0 (λ _. lit< tt)
+  value-by ControlWrite v = given-byte (refusal_of (tests_by ControlWrite v t)) 0 (λ _. lit< tt)
+  value-by DataRead v = given-byte (refusal_of (tests_by DataRead v t)) t.chip.buffer (λ _. s.ready.fits.buffer)
+  value-by StatusRead v = given-byte (refusal_of (tests_by StatusRead v t)) t.chip.status (λ _. s.ready.fits.status)
+  value-by DrawLine v = given-byte (refusal_of (tests_by DrawLine v t)) 0 (λ _. lit< tt)
+  value-by EndOfDisplay v = given-byte (refusal_of (tests_by EndOfDisplay v t)) 0 (λ _. lit< tt)
+  value-by Reset v = given-byte (refusal_of (tests_by Reset v t)) 0 (λ _. lit< tt)
 
-  pub value-byte : (r : Record) → (answer_to r t).value < 256
+  pub value-byte : (r : Record) → value_of (answer_to r t).result < 256
   value-byte r = value-by (operation_of r.operation) r.value
 
 -- That every record's value is a byte, as it is in records of bytes.
@@ -129,10 +129,10 @@ unfolding run_from
 run_sound i [] s h = s
 run_sound i (r ∷ rs) {t} s h =
     let next = sound-after s r h.0 in
-    either (λ (e : End). Sound e.target) (differs r (answer_to r t).value) _ _ next (run_sound (i + 1) rs next h.1)
+    either (λ (e : End). Sound e.target) (differs r (value_of (answer_to r t).result)) _ _ next (run_sound (i + 1) rs next h.1)
 
 pub found-byte : (i : ℕ) (rs : List Record) {t : Target} → Sound t → Values rs → (run_from i rs t).found < 256
 unfolding run_from
 found-byte i [] s h = lit< tt
 found-byte i (r ∷ rs) {t} s h =
-    either (λ (e : End). e.found < 256) (differs r (answer_to r t).value) _ _ (value-byte s r) (found-byte (i + 1) rs (sound-after s r h.0) h.1)
+    either (λ (e : End). e.found < 256) (differs r (value_of (answer_to r t).result)) _ _ (value-byte s r) (found-byte (i + 1) rs (sound-after s r h.0) h.1)

@@ -7,6 +7,7 @@ use mathlib.Core.List.{List, ◌∷◌}
 use lib.Dec.{eqb}
 use lib.ListN.{length, get_or, drop, length-drop}
 use Rattle.chip.specs.Calls.{data_write, data_write_vram, data_write_map}
+use Rattle.chip.specs.Refusals.{value_of}
 use Rattle.chip.specs.declared.state.Chip.{Chip}
 use Rattle.chip.specs.declared.refusal.Answer.{Answer}
 use Rattle.port_log.specs.Records.{operation_of, is_read, records_of, record_at}
@@ -24,7 +25,7 @@ unfolding run_from
 rest_over l i t h = ap (λ (rs : List Record). run_from i rs t) (records-none (drop (2 * i) l) (rw length-drop (omega arith)))
 
 -- The call of record i, with what it answers and leaves.
-module _ (l : List ℕ) (i : ℕ) (within : 2 * i + 1 < length l) (t : Target) {r : Record} {op : Operation} {a : Answer} {vram map line : List ℕ} {b : Bool} (is : r ≡ record_at l i) (named : op ≡ operation_of r.operation) (answer : a ≡ answer_by op r.value t) (new-vram : vram ≡ vram_by op r.value t) (new-map : map ≡ map_by op r.value t) (new_line : line ≡ line_by op r.value t) (test : b ≡ differs r a.value) where
+module _ (l : List ℕ) (i : ℕ) (within : 2 * i + 1 < length l) (t : Target) {r : Record} {op : Operation} {a : Answer} {vram map line : List ℕ} {x : ℕ} {b : Bool} (is : r ≡ record_at l i) (named : op ≡ operation_of r.operation) (answer : a ≡ answer_by op r.value t) (new-vram : vram ≡ vram_by op r.value t) (new-map : map ≡ map_by op r.value t) (new_line : line ≡ line_by op r.value t) (read : x ≡ value_of a.result) (test : b ≡ differs r x) where
   to : answer_to r t ≡ a
   to = sym (answer ∙ ap (λ (o : Operation). answer_by o r.value t) named)
 
@@ -33,28 +34,28 @@ module _ (l : List ℕ) (i : ℕ) (within : 2 * i + 1 < length l) (t : Target) {
       ap (λ (o : Operation). target (answer_by o r.value t).chip (vram_by o r.value t) (map_by o r.value t) (line_by o r.value t)) (sym named)
       ∙ (λ k. target (sym answer k).chip (sym new-vram k) (sym new-map k) (sym new_line k))
 
-  chosen : (x y : End) → cond (differs r (answer_to r t).value) x y ≡ cond b x y
-  chosen x y = ap (λ (d : Bool). cond d x y) (ap (λ (z : Answer). differs r z.value) to ∙ sym test)
+  chosen : (y z : End) → cond (differs r (value_of (answer_to r t).result)) y z ≡ cond b y z
+  chosen y z = ap (λ (d : Bool). cond d y z) (ap (λ (q : Answer). differs r (value_of q.result)) to ∙ sym (test ∙ ap (differs r) read))
 
   this : run_rest l i t ≡ run_from i (r ∷ records_of (drop (2 * (i + 1)) l)) t
   this = ap (λ (rs : List Record). run_from i rs t) (records-next l i within ∙ ap (λ (q : Record). q ∷ records_of (drop (2 * (i + 1)) l)) (sym is))
 
-  one : run_rest l i t ≡ cond b (record { target = after r t; done = i + 1; place = i; found = (answer_to r t).value }) (run_rest l (i + 1) (after r t))
+  one : run_rest l i t ≡ cond b (record { target = after r t; done = i + 1; place = i; found = value_of (answer_to r t).result }) (run_rest l (i + 1) (after r t))
   unfolding run_from
   one = this ∙ chosen _ _
 
   -- the read that differs ends the run
-  pub rest-differs : b ≡ true → run_rest l i t ≡ record { target = target a.chip vram map line; done = i + 1; place = i; found = a.value }
+  pub rest-differs : b ≡ true → run_rest l i t ≡ record { target = target a.chip vram map line; done = i + 1; place = i; found = x }
   rest-differs e =
       one
-      ∙ ap (λ (d : Bool). cond d (record { target = after r t; done = i + 1; place = i; found = (answer_to r t).value }) (run_rest l (i + 1) (after r t))) e
-      ∙ (λ k. record { target = left k; done = i + 1; place = i; found = (to k).value })
+      ∙ ap (λ (d : Bool). cond d (record { target = after r t; done = i + 1; place = i; found = value_of (answer_to r t).result }) (run_rest l (i + 1) (after r t))) e
+      ∙ (λ k. record { target = left k; done = i + 1; place = i; found = (ap (λ (q : Answer). value_of q.result) to ∙ sym read) k })
 
   -- and any other call is followed by the next
   pub rest-goes-on : b ≡ false → run_rest l i t ≡ run_rest l (i + 1) (target a.chip vram map line)
   rest-goes-on e =
       one
-      ∙ ap (λ (d : Bool). cond d (record { target = after r t; done = i + 1; place = i; found = (answer_to r t).value }) (run_rest l (i + 1) (after r t))) e
+      ∙ ap (λ (d : Bool). cond d (record { target = after r t; done = i + 1; place = i; found = value_of (answer_to r t).result }) (run_rest l (i + 1) (after r t))) e
       ∙ ap (run_rest l (i + 1)) left
 
 -- A data write is followed by the next record, whatever the slice for lines holds.
@@ -64,5 +65,5 @@ pub data-write-goes-on : (l : List ℕ) (i : ℕ) → 2 * i + 1 < length l → g
 unfolding operation_of answer_by vram_by map_by line_by
 data-write-goes-on l i within zero c vram map {r} {a} is answer new-vram new-map line =
     let named : DataWrite ≡ operation_of r.operation = ap operation_of (sym (ap (λ (q : Record). q.operation) is ∙ zero)) in
-    let test : false ≡ differs r a.value = ap (λ (op : Operation). is_read op && not (eqb a.value r.value)) named in
-    rest-goes-on l i within (target c vram map line) is named answer new-vram new-map refl test refl
+    let test : false ≡ differs r (value_of a.result) = ap (λ (op : Operation). is_read op && not (eqb (value_of a.result) r.value)) named in
+    rest-goes-on l i within (target c vram map line) is named answer new-vram new-map refl refl test refl

@@ -1,23 +1,23 @@
 -- What the tests of a run decide.
 use Prim.Native.Nat.{ℕ}
 use mathlib.Core.Path.{◌≡◌, refl, sym, ap, ◌∙◌}
-use mathlib.Core.Bool.{Bool, true, false, cond}
+use mathlib.Core.Bool.{true}
 use mathlib.Core.List.{List, ◌∷◌}
 use lib.ListN.{length}
 use borrow.Author.Tests.{eqb-true, eq-eqb}
 use Rattle.chip.specs.Map.{map_size}
 use Rattle.chip.specs.State.{Bytes, Fits, well_formed}
-use Rattle.chip.specs.Refusals.{vram_test, slice_test, state_test, refusal_of, is_accepted, if_accepted}
+use Rattle.chip.specs.Refusals.{vram_test, slice_test, state_test, Outcome, refusal_of, is_accepted, if_accepted, giving}
 use Rattle.chip.specs.declared.state.Chip.{Chip}
 use Rattle.chip.specs.declared.refusal.Refusal.{Refusal}
-use Rattle.chip.specs.declared.refusal.Refusal.TheVariants.{Accepted}
-use Rattle.chip.proofs.Laws.Refusals.{passed, is-accepted, the-new, AllPass, all_pass}
+use Rattle.std.specs.Prelude.{Ok, Err}
+use Rattle.chip.proofs.Laws.Refusals.{passed, the-new, AllPass, all_pass}
 use Rattle.scanline.specs.Calls.{line_size}
 use Rattle.port_log.specs.Format.{record_bytes}
 use Rattle.port_log.specs.Records.{records_of}
 use Rattle.port_log.specs.Tests.{log_tests}
 use Rattle.port_log.specs.Single.{target}
-use Rattle.port_log.specs.Run.{End, run_from, ran_of, refused_run, run_own_tests, run_tests, run_refusal, end_of, run_log, run_vram, run_map, run_line}
+use Rattle.port_log.specs.Run.{End, run_from, reached_of, ran_of, refused_run, run_own_tests, run_tests, run_refusal, end_of, run_log, run_vram, run_map, run_line}
 use Rattle.port_log.proofs.Laws.Refusals.{Good}
 use Rattle.port_log.proofs.Laws.Sound.{Sound}
 
@@ -31,26 +31,22 @@ module _ (c : Chip) (vram map line log : List ℕ) where
       ∙ passed (slice_test line_size line) (log_tests log) (eq-eqb _ _ wide)
 
   -- They decide what it hands back.
-  pub ran-refusal : (run_log c vram map line log).refusal ≡ run_refusal c vram map line log
-  ran-refusal = by (is_accepted (run_refusal c vram map line log)) refl
-    where
-      by : (a : Bool) → is_accepted (run_refusal c vram map line log) ≡ a → (cond a (ran_of (end_of c vram map line log)) (refused_run c (run_refusal c vram map line log))).refusal ≡ run_refusal c vram map line log
-      by true e = sym (is-accepted (run_refusal c vram map line log) e)
-      by false e = refl
+  pub ran-refusal : (run_log c vram map line log).result ≡ giving (run_refusal c vram map line log) (reached_of (end_of c vram map line log))
+  ran-refusal = refl
 
   -- What a run leaves that is refused ..
-  module _ {R : Refusal} (is : run_refusal c vram map line log ≡ R) (no : is_accepted R ≡ false) where
+  module _ {R : Refusal} (is : run_refusal c vram map line log ≡ Err R) where
     the-old : {A : Type 0} (new old : A) → old ≡ if_accepted (run_refusal c vram map line log) new old
-    the-old new old = sym (ap (λ (b : Bool). cond b new old) (ap is_accepted is ∙ no))
+    the-old new old = sym (ap (λ (r : Outcome). if_accepted r new old) is)
 
     pub refused-run : refused_run c R ≡ run_log c vram map line log
-    refused-run = ap (refused_run c) (sym is) ∙ the-old _ _
+    refused-run = rw is refl
 
     pub refused-slices : (vram ≡ run_vram c vram map line log) × ((map ≡ run_map c vram map line log) × (line ≡ run_line c vram map line log))
     refused-slices = (the-old _ vram, (the-old _ map, the-old _ line))
 
   -- .. and one that is accepted, with b its record bytes.
-  module _ (ok : run_refusal c vram map line log ≡ Accepted) {b : List ℕ} (same : b ≡ record_bytes log) where
+  module _ (ok : run_refusal c vram map line log ≡ Ok tt) {b : List ℕ} (same : b ≡ record_bytes log) where
     abbrev end : End
     end = run_from 0 (records_of b) (target c vram map line)
 
@@ -58,7 +54,7 @@ module _ (c : Chip) (vram map line log : List ℕ) where
     ends = ap (λ (l : List ℕ). run_from 0 (records_of l) (target c vram map line)) same
 
     pub accepted-run : ran_of end ≡ run_log c vram map line log
-    accepted-run = ap ran_of ends ∙ sym (the-new ok (ran_of (end_of c vram map line log)) (refused_run c (run_refusal c vram map line log)))
+    accepted-run = ap ran_of ends ∙ rw ok refl
 
     pub accepted-slices : (end.target.vram ≡ run_vram c vram map line log) × ((end.target.map ≡ run_map c vram map line log) × (end.target.line ≡ run_line c vram map line log))
     accepted-slices = (
@@ -67,9 +63,9 @@ module _ (c : Chip) (vram map line log : List ℕ) where
     )
 
   -- Such a run has a sound target and a good log.
-  module _ (ok : run_refusal c vram map line log ≡ Accepted) where
+  module _ (ok : run_refusal c vram map line log ≡ Ok tt) where
     pass : AllPass (run_tests c vram map line log)
-    pass = all_pass (run_tests c vram map line log) (refl, (refl, (refl, (refl, (refl, (refl, (refl, (refl, tt)))))))) (ap is_accepted ok)
+    pass = all_pass (run_tests c vram map line log) (ap is_accepted ok)
 
     pub accepted-sound : Fits c → Bytes vram → Sound (target c vram map line)
     accepted-sound fits bytes =

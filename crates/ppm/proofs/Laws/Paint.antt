@@ -1,11 +1,12 @@
 -- Colours painted one by one.
-use Prim.Native.Nat.{ℕ, suc, ◌+◌, ◌*◌, ◌≤◌, ◌<◌}
+use Prim.Native.Nat.{ℕ, ◌+◌, ◌-◌, ◌*◌, ◌≤◌, ◌<◌}
 use native.Mathlib.Numerals.{add-one}
 use native.Mathlib.Omega.{arith}
 use mathlib.Core.Path.{◌≡◌, refl, sym, ap, ap₂, ◌∙◌}
 use mathlib.Core.List.{List, [], ◌∷◌, ◌++◌, append_assoc, append-nil}
-use lib.ListN.{length, get_or, take, drop, set, length-append, length-drop}
-use lib.Seq.{sets-eq, take-suc, take_all, take_at, drop_at, drop-drop, length-take-le}
+use lib.ListN.{length, get_or, take, drop, length-append, length-drop}
+use borrow.Rule.Slice.PartMut.{put_mid, Post-is}
+use lib.Seq.{take-suc, take_all, take_at, drop_at, drop-drop, length-take-le}
 use Rattle.chip.specs.Lists.{put_at}
 use Rattle.ppm.specs.Palette.{rgb_of}
 use Rattle.ppm.specs.Picture.{painted}
@@ -24,12 +25,6 @@ unfolding painted
 length-painted [] = refl
 length-painted (c ∷ l) = let h = length-painted l in omega arith
 
--- three stores in a row
-three : (l : List ℕ) (n a b d : ℕ) → n + 3 ≤ length l → set (set (set l n a) (n + 1) b) (n + 2) d ≡ take n l ++ (a ∷ b ∷ d ∷ []) ++ drop (n + 3) l
-three l n a b d h =
-    ap₂ (λ (j k : ℕ). set (set (set l n a) j b) k d) (add-one n) (let e : n + 2 ≡ suc (suc n) = omega arith in e)
-    ∙ sets-eq (a ∷ b ∷ d ∷ []) l n h
-
 -- The first x colours are painted, and what follows is as it was.
 pub record Painting (colours out₀ out : List ℕ) (x : ℕ) : Type 0 where
   pub so_far : out ≡ painted (take x colours) ++ drop (3 * x) out₀
@@ -47,7 +42,7 @@ module _ {colours out₀ : List ℕ} (room : 3 * length colours ≤ length out�
       let back = length-drop (3 * x) out₀ in
       omega arith
 
-  pub painting-more : {out pixel : List ℕ} {x : ℕ} → x < length colours → pixel ≡ rgb_of (get_or colours x 0) → Painting colours out₀ out x → Painting colours out₀ (set (set (set out (3 * x) (get_or pixel 0 0)) (3 * x + 1) (get_or pixel 1 0)) (3 * x + 2) (get_or pixel 2 0)) (x + 1)
+  pub painting-more : {out pixel : List ℕ} {x : ℕ} → x < length colours → pixel ≡ rgb_of (get_or colours x 0) → Painting colours out₀ out x → Painting colours out₀ (put_mid (3 * x) (3 * x + 3 - 3 * x) out pixel) (x + 1)
   painting-more {out} {pixel} {x} h e g =
       let c = get_or colours x 0 in
       let p = painted (take x colours) in
@@ -62,8 +57,8 @@ module _ {colours out₀ : List ℕ} (room : 3 * length colours ≤ length out�
       ap painted (ap (λ (k : ℕ). take k colours) (add-one x) ∙ take-suc colours x 0 h) ∙ painted-one-more (take x colours) c in
       record {
         so_far =
-            ap (λ (q : List ℕ). set (set (set out (3 * x) (get_or q 0 0)) (3 * x + 1) (get_or q 1 0)) (3 * x + 2) (get_or q 2 0)) e
-            ∙ three out (3 * x) _ _ _ (omega arith)
+            ap₂ (λ (q t : List ℕ). take (3 * x) out ++ (q ++ t)) e (Post-is (3 * x) (3 * x + 3) out (omega arith))
+            ∙ sym (append_assoc (take (3 * x) out) (rgb_of c) (drop (3 * x + 3) out))
             ∙ ap₂ (λ (s t : List ℕ). s ++ rgb_of c ++ t) kept next
             ∙ ap (λ (s : List ℕ). s ++ drop (3 * (x + 1)) out₀) (sym more);
       }
@@ -73,3 +68,6 @@ module _ {colours out₀ : List ℕ} (room : 3 * length colours ≤ length out�
       let end = length-painted colours in
       let at : 3 * x ≡ 0 + length (painted colours) = omega arith in
       g.so_far ∙ ap₂ (λ (s : List ℕ) (k : ℕ). painted s ++ drop k out₀) (take_all x colours (omega arith)) at
+
+-- the first, one more, and all
+pub ruleset painting = (painting-none, painting-more, painting-all)

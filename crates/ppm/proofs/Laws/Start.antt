@@ -1,27 +1,21 @@
--- Where the walk starts, by the number that reading the file answers.
+-- Where the walk starts, by how reading the file was answered.
 use Prim.Native.Nat.{ℕ}
-use mathlib.Core.Path.{◌≡◌, sym, ap, ◌∙◌}
-use mathlib.Core.Bool.{Bool, cond}
+use mathlib.Core.Path.{◌≡◌, refl, ap, ◌∙◌}
 use mathlib.Core.List.{List}
-use borrow.Author.Tests.{eq-eqb, ne_eqb}
+use Rattle.std.specs.Prelude.{Ok, Err}
 use Rattle.chip.specs.State.{power_up_state}
-use Rattle.chip.specs.Refusals.{number_of, is_accepted}
+use Rattle.chip.specs.Refusals.{Outcome, giving}
 use Rattle.chip.specs.declared.refusal.Answer.{Answer}
-use Rattle.snapshot.specs.Calls.{read_snapshot}
+use Rattle.snapshot.specs.Calls.{read_refusal, read_snapshot}
 use Rattle.ppm.specs.declared.walk.Next.{Next}
-use Rattle.ppm.specs.declared.walk.Next.TheVariants.{Refused, Header}
-use Rattle.ppm.specs.declared.walk.Walk.{Walk}
 use Rattle.ppm.specs.Walk.{first_next, start_walk}
 
-module _ (vram file : List ℕ) {a : Answer} {n : ℕ} (answer : a ≡ read_snapshot power_up_state vram file) (number : n ≡ number_of a.refusal) where
-  by_first : {first : Next} → first_next a.refusal ≡ first → ◌≡◌ {A = Walk} (record { next = first; chip = a.chip }) (start_walk vram file)
-  by_first e = ap (λ (m : Next). record { next = m; chip = a.chip }) (sym e) ∙ ap (λ (b : Answer). record { next = first_next b.refusal; chip = b.chip }) answer
+-- what is first follows from the tests alone
+first-given : (r : Outcome) (v : ℕ) → first_next (giving r v) ≡ first_next r
+first-given (Ok x) v = refl
+first-given (Err n) v = refl
 
-  either : {b : Bool} → is_accepted a.refusal ≡ b → first_next a.refusal ≡ cond b Header (Refused (number_of a.refusal))
-  either e = ap (λ (b : Bool). cond b Header (Refused (number_of a.refusal))) e
-
-  pub start-accepted : n ≡ 0 → ◌≡◌ {A = Walk} (record { next = Header; chip = a.chip }) (start_walk vram file)
-  start-accepted zero = by_first (either (eq-eqb (number_of a.refusal) 0 (sym number ∙ zero)))
-
-  pub start-refused : (n ≡ 0 → ⊥) → ◌≡◌ {A = Walk} (record { next = Refused n; chip = a.chip }) (start_walk vram file)
-  start-refused other = by_first (either (ne_eqb (number_of a.refusal) 0 (λ e. other (number ∙ e))) ∙ ap Refused (sym number))
+pub started : (vram file : List ℕ) {a : Answer} {next : Next} → a ≡ read_snapshot power_up_state vram file → next ≡ first_next a.result → record { next = next; chip = a.chip } ≡ start_walk vram file
+started vram file e f =
+    let next = f ∙ ap (λ (a : Answer). first_next a.result) e ∙ first-given (read_refusal vram file) 0 in
+    λ i. record { next = next i; chip = (e i).chip }

@@ -1,10 +1,10 @@
 -- Redrawing line by line, over any new line, new note and due test.
 use Prim.Native.Nat.{ℕ, ◌+◌, ◌*◌, ◌≤◌, ◌<◌}
 use native.Mathlib.Omega.{arith}
-use mathlib.Core.Path.{◌≡◌, refl, sym, ap, ap₂, ◌∙◌}
+use mathlib.Core.Path.{◌≡◌, refl, sym, ap₂, ◌∙◌}
 use mathlib.Core.Bool.{Bool}
 use mathlib.Core.List.{List, ◌++◌}
-use lib.ListN.{length, get_or, take, drop, set, length-set, length-append, length-drop}
+use lib.ListN.{length, get_or, take, drop, set, length-set}
 use lib.Seq.{get_or-set_other}
 use mir.Val.{bool_byte}
 use Rattle.chip.specs.Lists.{tabulate}
@@ -39,21 +39,10 @@ module _ (n : ℕ) (line : ℕ → List ℕ) (note : ℕ → ℕ) (is : ℕ → 
           counted = ap₂ (λ (a : ℕ) (x : Bool). a + bool_byte x) g.counted eb ∙ sym (count-more l is);
         }
 
-  -- the frame keeps its length
-  pub redrawn-long : {frame₀ notes₀ frame notes : List ℕ} {count l : ℕ} → l ≤ n → length frame₀ ≡ 256 * n → Redrawn n line note is frame₀ notes₀ frame notes count l → length frame ≡ 256 * n
-  redrawn-long {frame₀} {notes₀} {frame} {notes} {count} {l} h e g =
-      let front = length-end line l (λ k below. wide k (omega arith)) in
-      let back = length-drop (256 * l) frame₀ in
-      let both = length-append (lines_end_to_end l line) (drop (256 * l) frame₀) in
-      let so : length frame ≡ length (lines_end_to_end l line ++ drop (256 * l) frame₀) = ap length g.lines in
-      omega arith
-
   -- One line more, lent as a part of the frame of width w.
   module _ {frame₀ notes₀ frame notes : List ℕ} {count l : ℕ} (h : l < n) (e : length frame₀ ≡ 256 * n) (g : Redrawn n line note is frame₀ notes₀ frame notes count l) where
-    pub redrawn-line : {part : List ℕ} {v : ℕ} {b : Bool} {w : ℕ} → w ≡ 256 → part ≡ line l → v ≡ note l → b ≡ is l → (length (take (256 * l) frame ++ (part ++ drop w (drop (256 * l) frame))) ≡ 256 * n) × Redrawn n line note is frame₀ notes₀ (take (256 * l) frame ++ (part ++ drop w (drop (256 * l) frame))) (set notes l v) (count + bool_byte b) (l + 1)
-    redrawn-line {part} {v} {b} ew ep en eb =
-        let more = redrawn-more h g part v b ep en eb in
-        rw ew (redrawn-long (omega arith) e more, more)
+    pub redrawn-line : {part : List ℕ} {v : ℕ} {b : Bool} {w : ℕ} → w ≡ 256 → part ≡ line l → v ≡ note l → b ≡ is l → Redrawn n line note is frame₀ notes₀ (take (256 * l) frame ++ (part ++ drop w (drop (256 * l) frame))) (set notes l v) (count + bool_byte b) (l + 1)
+    redrawn-line {part} {v} {b} ew ep en eb = rw ew (redrawn-more h g part v b ep en eb)
 
   pub redrawn-all : {frame₀ notes₀ frame notes : List ℕ} {count : ℕ} → length frame₀ ≡ 256 * n → Redrawn n line note is frame₀ notes₀ frame notes count n → (frame ≡ lines_end_to_end n line) × (notes ≡ tabulate n note)
   redrawn-all {frame₀} {notes₀} {frame} e g = (all_lines line frame₀ frame n e g.lines, tabulated g.long g.done.front)

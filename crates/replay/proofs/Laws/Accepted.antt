@@ -5,20 +5,18 @@ use mathlib.Core.Path.{◌≡◌, sym, ap, ap₂, ◌∙◌}
 use mathlib.Core.Bool.{true}
 use mathlib.Core.List.{List, ◌++◌, append-nil}
 use lib.ListN.{length, length-replicate, drop_of_length-le}
+use Rattle.std.specs.Prelude.{Ok}
 use Rattle.chip.specs.Lists.{put_at}
 use Rattle.chip.specs.State.{Bytes, well_formed, power_up_state}
 use Rattle.chip.specs.Map.{map_size}
 use Rattle.chip.specs.Ports.{cleared_vram}
-use Rattle.chip.specs.declared.refusal.Answer.{Answer}
-use Rattle.chip.specs.declared.refusal.Refusal.{Refusal}
-use Rattle.chip.specs.declared.refusal.Refusal.TheVariants.{Accepted}
 use Rattle.chip.proofs.Laws.Lists.{bytes_take}
 use Rattle.chip.proofs.Laws.Ready.{Ready}
-use Rattle.chip.proofs.Laws.Refusals.{the-new}
+use Rattle.chip.proofs.Laws.Refusals.{the-new, the-value}
 use Rattle.scanline.specs.Calls.{line_size}
 use Rattle.snapshot.specs.Format.{snapshot_of}
 use Rattle.snapshot.specs.Tests.{vram_bytes, held_state}
-use Rattle.snapshot.specs.Calls.{read_snapshot, read_vram, write_refusal, written}
+use Rattle.snapshot.specs.Calls.{write_refusal, written}
 use Rattle.snapshot.proofs.Laws.Bytes.{bytes-part}
 use Rattle.snapshot.proofs.Laws.Held.{ready_held, bytes-held}
 use Rattle.snapshot.proofs.Laws.Parts.{length-vram}
@@ -27,11 +25,11 @@ use Rattle.snapshot.proofs.Laws.Written.{length-snapshot}
 use Rattle.port_log.specs.Format.{log_trailer_at, record_bytes}
 use Rattle.port_log.specs.Records.{records_of}
 use Rattle.port_log.specs.Single.{target}
-use Rattle.port_log.specs.Run.{End, end_of, ran_of, refused_run, run_refusal, run_log, run_vram}
+use Rattle.port_log.specs.Run.{End, end_of}
+use Rattle.port_log.specs.declared.running.Reached.{Reached}
 use Rattle.port_log.specs.declared.running.Ran.{Ran}
 use Rattle.port_log.proofs.Laws.Sound.{Sound, values-bytes, run_sound}
-use Rattle.port_log.proofs.Laws.Tested.{ran-refusal}
-use Rattle.replay.specs.Streams.{snapshot_part, log_part, start_state, start_vram, clear_list, ran, vram_after, replay_refusal, replayed, written_of, snapshot_refusal, report_of, after_run}
+use Rattle.replay.specs.Streams.{snapshot_part, log_part, start_state, start_vram, clear_list, ran, vram_after, refusal_of_run, reached, replay_refusal, replayed, written_of, snapshot_refusal, report_of, after_run}
 use Rattle.replay.proofs.Laws.Refused.{neither-refused, streams-accepted}
 
 -- bytes put in place of as many
@@ -42,22 +40,8 @@ put_whole b l e = let over : length l ≤ 0 + length b = omega arith in ap (λ (
 abbrev pub end_for : List ℕ → End
 end_for input = end_of (start_state input) (start_vram input) (clear_list map_size) (clear_list line_size) (log_part input)
 
-abbrev pub run_refusal_for : List ℕ → Refusal
-run_refusal_for input = run_refusal (start_state input) (start_vram input) (clear_list map_size) (clear_list line_size) (log_part input)
-
-pub run-refusal : (input : List ℕ) → (ran input).refusal ≡ run_refusal_for input
-run-refusal input = ran-refusal (start_state input) (start_vram input) (clear_list map_size) (clear_list line_size) (log_part input)
-
--- a run from what reading the snapshot's part left
-module _ (input : List ℕ) {a : Answer} {vram log : List ℕ} (read : a ≡ read_snapshot power_up_state cleared_vram (snapshot_part input)) (kept : vram ≡ read_vram cleared_vram (snapshot_part input)) (behind : log ≡ log_part input) where
-  pub ran-from : run_log a.chip vram (clear_list map_size) (clear_list line_size) log ≡ ran input
-  ran-from i = run_log (read i).chip (kept i) (clear_list map_size) (clear_list line_size) (behind i)
-
-  pub vram-from : run_vram a.chip vram (clear_list map_size) (clear_list line_size) log ≡ vram_after input
-  vram-from i = run_vram (read i).chip (kept i) (clear_list map_size) (clear_list line_size) (behind i)
-
 -- what a snapshot that is accepted leaves to the run
-module _ (input : List ℕ) (ok : snapshot_refusal input ≡ Accepted) where
+module _ (input : List ℕ) (ok : snapshot_refusal input ≡ Ok tt) where
   part-readable : Readable cleared_vram (snapshot_part input)
   part-readable = accepted-readable cleared_vram (snapshot_part input) ok
 
@@ -84,12 +68,12 @@ module _ (input : List ℕ) (ok : snapshot_refusal input ≡ Accepted) where
         line = length-replicate {A = ℕ} 256 0;
       }
 
-module _ (input : List ℕ) (bytes : Bytes input) (accepted : replay_refusal input ≡ Accepted) where
-  run-accepted : run_refusal_for input ≡ Accepted
-  run-accepted = sym (run-refusal input) ∙ (neither-refused input accepted).1
+module _ (input : List ℕ) (bytes : Bytes input) (accepted : replay_refusal input ≡ Ok tt) where
+  run-accepted : refusal_of_run input ≡ Ok tt
+  run-accepted = (neither-refused input accepted).1
 
-  pub ran-end : ran input ≡ ran_of (end_for input)
-  ran-end = the-new run-accepted (ran_of (end_for input)) (refused_run (start_state input) (run_refusal_for input))
+  chip-end : (ran input).chip ≡ (end_for input).target.chip
+  chip-end = the-new run-accepted (end_for input).target.chip (start_state input)
 
   pub vram-end : vram_after input ≡ (end_for input).target.vram
   vram-end = the-new run-accepted (end_for input).target.vram (start_vram input)
@@ -102,7 +86,7 @@ module _ (input : List ℕ) (bytes : Bytes input) (accepted : replay_refusal inp
 
   -- what the run leaves can be written
   pub ready-after : Ready (ran input).chip
-  ready-after = rw ran-end end-sound.ready
+  ready-after = rw chip-end end-sound.ready
 
   pub bytes_after : Bytes (vram_after input)
   bytes_after = rw vram-end end-sound.bytes
@@ -114,17 +98,19 @@ module _ (input : List ℕ) (bytes : Bytes input) (accepted : replay_refusal inp
   length-after = length-snapshot (ran input).chip ready-after.fits.eight (vram_after input) full-after
 
   pub accepted-writes : (output errors : List ℕ) → length output ≡ 16406
-      → {r : Ran} → r ≡ ran input → {vram : List ℕ} → vram ≡ vram_after input
-      → {n : ℕ} → n ≡ length (report_of r)
-      → {output' errors' : List ℕ} → output' ≡ written r.chip vram output → errors' ≡ put_at 0 (report_of r) errors
+      → {r : Ran} {q : Reached} → r ≡ ran input → r.result ≡ Ok q → {vram : List ℕ} → vram ≡ vram_after input
+      → {n : ℕ} → n ≡ length (report_of q)
+      → {output' errors' : List ℕ} → output' ≡ written r.chip vram output → errors' ≡ put_at 0 (report_of q) errors
       → (record { output = 16406; errors = n } ≡ written_of (replayed input)) × ((output' ≡ put_at 0 (replayed input).output output) × (errors' ≡ put_at 0 (replayed input).errors errors))
-  accepted-writes output errors room run kept counts is line =
-      let writes : write_refusal (ran input).chip (vram_after input) output ≡ Accepted = write-accepted (ran input).chip (vram_after input) output full-after room ready-after.well-formed in
+  accepted-writes output errors room {r} {q} run got kept counts is line =
+      let writes : write_refusal (ran input).chip (vram_after input) output ≡ Ok tt = write-accepted (ran input).chip (vram_after input) output full-after room ready-after.well-formed in
       let file : written (ran input).chip (vram_after input) output ≡ (after_run input).output = the-new writes (after_run input).output output in
+      let same : Ok q ≡ Ok (reached input) = sym got ∙ ap (λ (x : Ran). x.result) run ∙ the-value run-accepted (reached input) in
+      let far : q ≡ reached input = cc in
       rw (streams-accepted input accepted) (
-        ap₂ (λ (m k : ℕ). record { output = m; errors = k }) (sym length-after) (counts ∙ ap (λ (x : Ran). length (report_of x)) run),
+        ap₂ (λ (m k : ℕ). record { output = m; errors = k }) (sym length-after) (counts ∙ ap (λ (x : Reached). length (report_of x)) far),
         (
           is ∙ (λ i. written (run i).chip (kept i) output) ∙ file ∙ sym (put_whole (after_run input).output output (length-after ∙ sym room)),
-          line ∙ ap (λ (x : Ran). put_at 0 (report_of x) errors) run,
+          line ∙ ap (λ (x : Reached). put_at 0 (report_of x) errors) far,
         ),
       )

@@ -46,8 +46,8 @@ module _ (m : Mode) (r vram : List ℕ) where
 
 module _ (m : Mode) (r vram : List ℕ) (row : ℕ) where
   -- All cells, where the tiles show what the cells do.
-  pub settled-cells : {part old : List ℕ} {tile : ℕ → ℕ → ℕ → ℕ} → ((i k j : ℕ) → i < cells_in m → k < 8 → j < 8 → tile i k j ≡ over (pick (value (cell_of m r (8 * row + k) i) vram) j) (behind_planes r)) → Settled old (row_pixel m r vram row) (margin m) → Tiled m tile part old (cells_in m) → Settled part (row_pixel m r vram row) (margin m + cells_in m * cell_width m)
-  settled-cells same s t = t.settled _ (λ i k j hi hk hj. let wide = narrow m in same i k j hi hk (omega arith) ∙ cell-pixel m r vram (8 * row + k) i j hi hj) s
+  pub settled-cells : {part old : List ℕ} {tile : ℕ → ℕ → ℕ → ℕ} → Tiled m tile part old (cells_in m) → ((i k j : ℕ) → i < cells_in m → k < 8 → j < 8 → tile i k j ≡ over (pick (value (cell_of m r (8 * row + k) i) vram) j) (behind_planes r)) → Settled old (row_pixel m r vram row) (margin m) → Settled part (row_pixel m r vram row) (margin m + cells_in m * cell_width m)
+  settled-cells t same s = t.settled _ (λ i k j hi hk hj. let wide = narrow m in same i k j hi hk (omega arith) ∙ cell-pixel m r vram (8 * row + k) i j hi hj) s
 
   -- Eight columns without a cell.
   pub settled-margin : {new old paints : List ℕ} {at : ℕ} → Paints r paints → ((k j : ℕ) → k < 8 → j < 8 → plane_colour m (value (plane_of m r (8 * row + k)) vram) (at + j) ≡ 0) → Settled old (row_pixel m r vram row) at → Striped new old at (λ k j. cond (ltb k 4) (byte_of j (get_or paints 0 0)) (byte_of j (get_or paints 0 0))) → Settled new (row_pixel m r vram row) (at + 8)

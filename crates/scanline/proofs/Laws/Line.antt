@@ -1,7 +1,7 @@
 -- What a line shows, put together from its plane and its sprites.
 use Prim.Native.Nat.{ℕ}
 use mathlib.Core.Path.{◌≡◌, refl, sym, ap, ap₂, ◌∙◌}
-use mathlib.Core.Bool.{false, ◌||◌}
+use mathlib.Core.Bool.{Bool, true, false, ◌||◌}
 use mathlib.Core.List.{List, [], ◌++◌}
 use lib.ListN.{get_or}
 use Rattle.chip.specs.Lists.{tabulate}
@@ -16,11 +16,11 @@ use Rattle.planes.specs.Plane.{plane_colour}
 use Rattle.planes.specs.Pixel.{first_non_zero, pixel_of}
 use Rattle.planes.specs.Origin.{origin_code, settle}
 use Rattle.planes.specs.declared.cell.Cell.{Cell}
-use Rattle.sprites.specs.Scan.{Found, fifth_of}
+use Rattle.sprites.specs.Scan.{Found, scan_of, fifth_of}
 use Rattle.sprites.specs.Pixels.{visible, sprite_colours, numbered_colours, reach, coincidence}
 use Rattle.sprites.specs.Codes.{first_number}
 use Rattle.sprites.proofs.Laws.Codes.{first-number}
-use Rattle.scanline.specs.Line.{Row, sprites_of, line_of, settled, colour_at, settled_pixel, pixel_at}
+use Rattle.scanline.specs.Line.{Row, no_sprites, has_sprites, sprites_of, line_of, settled, colour_at, settled_pixel, pixel_at}
 use Rattle.scanline.specs.Notes.{note_by, note_of}
 use Rattle.scanline.specs.Calls.{note_at, colours, origins}
 
@@ -48,6 +48,15 @@ module _ (r : List ℕ) (l : ℕ) (vram : List ℕ) where
 
   abbrev pub plane_origins : List ℕ
   plane_origins = tabulate 256 (λ x. origin_code (settle r [] (plane_colour m (value (plane_of m r l) vram) x)).origin)
+
+  -- the sprites of the line's mode, where the code has found that mode and whether it has sprites
+  module _ {mode : Mode} {shows : Bool} (in-mode : mode ≡ mode_of r) (has : shows ≡ has_sprites mode) where
+    pub scanned : shows ≡ true → value (sprites_of m r l) vram ≡ value (scan_of r l) vram
+    scanned e = rw (sym in-mode, sym has ∙ e)
+
+    pub without : shows ≡ false → value (sprites_of m r l) vram ≡ no_sprites
+    unfolding value
+    without e = rw (sym in-mode, sym has ∙ e)
 
   module _ (f : Found) (found : value (sprites_of m r l) vram ≡ f) where
     pub note-is : note_by (fifth_of f.ended) (coincidence r f.sprites) ≡ note_at r vram l

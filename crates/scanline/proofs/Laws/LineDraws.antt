@@ -10,7 +10,7 @@ use borrow.Author.Tests.{eq-eqb, le-leb}
 use Rattle.chip.specs.Lists.{tabulate}
 use Rattle.chip.specs.State.{well_formed, with_status}
 use Rattle.chip.specs.declared.state.Chip.{Chip}
-use Rattle.chip.specs.declared.refusal.Refusal.TheVariants.{Accepted}
+use Rattle.std.specs.Prelude.{Ok}
 use Rattle.chip.proofs.Laws.Refusals.{the-new, all-accepted}
 use Rattle.scanline.specs.Notes.{status_after, status_through}
 use Rattle.scanline.specs.Calls.{note_at, colours, draw_line_tests, draw_line_refusal, draw_line, draw_line_line}
@@ -43,7 +43,7 @@ still_formed s c ok = ok
 module _ (vram : List ℕ) (full : length vram ≡ 16384) where
   -- The draw of one line.
   module _ (c : Chip) (ok : well_formed c ≡ true) (line codes : List ℕ) (wide : (length line ≡ 256) × (length codes ≡ 256)) (l : ℕ) (h : l < 192) where
-    pub line-accepted : draw_line_refusal c vram line codes l ≡ Accepted
+    pub line-accepted : draw_line_refusal c vram line codes l ≡ Ok tt
     line-accepted =
         all-accepted (draw_line_tests c vram line codes l) (eq-eqb _ _ full, (ok, (eq-eqb _ _ wide.0, (eq-eqb _ _ wide.1, (le-leb l 191 (omega arith), tt)))))
 
@@ -63,7 +63,7 @@ module _ (vram : List ℕ) (full : length vram ≡ 16384) where
         ∙ state-drawn (noted n c vram) (still_formed _ c ok) (s.line n) (s.codes n) (wide n) n (omega arith)
         ∙ ap (λ (k : ℕ). with_status k c) (sym (one-line-more c.status (note_at c.registers vram) n))
 
-    pub each-accepted : (l : ℕ) → l < 192 → draw_line_refusal (state_after l c vram s) vram (s.line l) (s.codes l) l ≡ Accepted
+    pub each-accepted : (l : ℕ) → l < 192 → draw_line_refusal (state_after l c vram s) vram (s.line l) (s.codes l) l ≡ Ok tt
     each-accepted l h =
         ap (λ (d : Chip). draw_line_refusal d vram (s.line l) (s.codes l) l) (state-after l (omega arith)) ∙ line-accepted (noted l c vram) (still_formed _ c ok) (s.line l) (s.codes l) (wide l) l h
 

@@ -5,8 +5,7 @@ use Rattle.chip.specs.State.{Bytes, Fits, flag_of, byte_of}
 use Rattle.chip.specs.TwoBytes.{low_first}
 use Rattle.chip.specs.Layout.{encoded}
 use Rattle.chip.specs.declared.state.Chip.{Chip}
-use Rattle.chip.specs.declared.state.Waiting.{Waiting}
-use Rattle.chip.specs.declared.state.Waiting.TheVariants.{Nothing, First}
+use Rattle.std.specs.Prelude.{Option, None, Some}
 use Rattle.chip.proofs.Laws.Lists.{bytes_take}
 use Rattle.chip.proofs.Laws.TwoBytes.{bytes_low_first}
 use Rattle.snapshot.specs.Format.{trailer_of, snapshot_of}
@@ -34,9 +33,9 @@ bytes_drop n l b i = subst⁻¹ (λ (x : ℕ). x < 256) (get_or-drop n l i 0) (b
 pub bytes-part : (k n : ℕ) (l : List ℕ) → Bytes l → Bytes (take n (drop k l))
 bytes-part k n l b = bytes_take n (drop k l) (bytes_drop k l b)
 
-flag-byte : (w : Waiting) → flag_of w < 256
-flag-byte Nothing = lit< tt
-flag-byte (First a) = lit< tt
+flag-byte : (w : Option ℕ) → flag_of w < 256
+flag-byte None = lit< tt
+flag-byte (Some a) = lit< tt
 
 bytes-encoded : (c : Chip) → Fits c → Bytes (encoded c)
 unfolding AllBytes

@@ -1,9 +1,9 @@
 -- When writing and reading are accepted: each test passes.
-use Rattle.std.proofs.Common.{◌≡◌, ℕ, true, List, length, refl, ap, eq-eqb, eqb-true}
+use Rattle.std.proofs.Common.{◌≡◌, ℕ, true, List, length, ap, eq-eqb, eqb-true}
 use Rattle.chip.specs.State.{well_formed}
 use Rattle.chip.specs.Refusals.{is_accepted}
 use Rattle.chip.specs.declared.state.Chip.{Chip}
-use Rattle.chip.specs.declared.refusal.Refusal.TheVariants.{Accepted}
+use Rattle.std.specs.Prelude.{Ok}
 use Rattle.chip.proofs.Laws.Refusals.{all_pass, all-accepted}
 use Rattle.snapshot.specs.Tests.{held_state, points_back, sum_right}
 use Rattle.snapshot.specs.Calls.{write_tests, write_refusal, read_tests, read_refusal}
@@ -16,15 +16,15 @@ pub record Readable (vram s : List ℕ) : Type 0 where
   pub total : sum_right s ≡ true
   pub holds : well_formed (held_state s) ≡ true
 
-pub write-accepted : (c : Chip) (vram out : List ℕ) → length vram ≡ 16384 → length out ≡ 16406 → well_formed c ≡ true → write_refusal c vram out ≡ Accepted
+pub write-accepted : (c : Chip) (vram out : List ℕ) → length vram ≡ 16384 → length out ≡ 16406 → well_formed c ≡ true → write_refusal c vram out ≡ Ok tt
 write-accepted c vram out hv ho ok = all-accepted (write_tests c vram out) (eq-eqb _ _ hv, (ok, (eq-eqb _ _ ho, tt)))
 
-pub read-accepted : (vram s : List ℕ) → Readable vram s → read_refusal vram s ≡ Accepted
+pub read-accepted : (vram s : List ℕ) → Readable vram s → read_refusal vram s ≡ Ok tt
 read-accepted vram s r = all-accepted (read_tests vram s) (eq-eqb _ _ r.room, (eq-eqb _ _ r.whole, (r.points, (r.total, (r.holds, tt)))))
 
-pub accepted-readable : (vram s : List ℕ) → read_refusal vram s ≡ Accepted → Readable vram s
+pub accepted-readable : (vram s : List ℕ) → read_refusal vram s ≡ Ok tt → Readable vram s
 accepted-readable vram s e =
-    let p = all_pass (read_tests vram s) (refl, (refl, (refl, (refl, (refl, tt))))) (ap is_accepted e) in
+    let p = all_pass (read_tests vram s) (ap is_accepted e) in
     record {
       room = eqb-true (length vram) 16384 p.0;
       whole = eqb-true (length s) 16406 p.1.0;

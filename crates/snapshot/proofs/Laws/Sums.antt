@@ -1,11 +1,12 @@
 -- Sums of bytes.
-use Rattle.std.proofs.Common.{◌≡◌, ℕ, ◌+◌, ◌<◌, List, [], ◌∷◌, ◌++◌, length, get_or, take, ap, add-zero, add-one, arith, take-suc}
-use Rattle.snapshot.specs.Format.{sum}
+use Rattle.std.proofs.Common.{◌≡◌, ℕ, ◌+◌, ◌%◌, ◌<◌, List, [], ◌∷◌, arith, lit<}
+use Rattle.std.specs.List.{fold}
+use Rattle.snapshot.specs.Format.{sum, checksum}
 
-sum-append : (p q : List ℕ) → sum (p ++ q) ≡ sum p + sum q
-sum-append [] q = omega arith
-sum-append (b ∷ p) q = let rest = sum-append p q in omega arith
+-- bytes added one after another, with 65,536 taken off as often as it can be
+added : (l : List ℕ) (t : ℕ) → t < 65536 → fold (λ a b. (a + b) % 65536) t l ≡ (t + sum l) % 65536
+added [] t h = omega arith
+added (b ∷ l) t h = let rest = added l ((t + b) % 65536) (omega arith) in omega arith
 
--- one byte more
-pub sum_more : (s : List ℕ) (i : ℕ) → i < length s → sum (take (i + 1) s) ≡ sum (take i s) + get_or s i 0
-sum_more s i h = rw (add-one, take-suc s i 0 h, sum-append) (ap (λ (n : ℕ). sum (take i s) + n) (add-zero (get_or s i 0)))
+pub summed : (l : List ℕ) → fold (λ a b. (a + b) % 65536) 0 l ≡ checksum l
+summed l = let all = added l 0 (lit< tt) in omega arith

@@ -1,12 +1,18 @@
 -- Sprites drawn one by one, the last first.
-use Rattle.std.proofs.Common.{◌≡◌, ℕ, suc, ◌-◌, ◌<◌, ◌≤◌, Bool, true, false, cond, ◌&&◌, ◌||◌, eqb, List, [], ◌∷◌, length, get_or, take, drop, sym, refl, ap, ◌∙◌, ap₂, arith, drop_of_length-le, length-take-le, drop-cons, get_or-take}
+use Rattle.std.proofs.Common.{◌≡◌, ℕ, suc, ◌+◌, ◌-◌, ◌<◌, ◌≤◌, Bool, true, false, cond, ◌&&◌, ◌||◌, eqb, List, [], ◌∷◌, ◌++◌, length, get_or, take, drop, sym, refl, ap, ◌∙◌, ap₂, arith, drop_of_length-le, length-drop, length-take-le, drop-cons, get_or-drop, get_or-take}
+use Rattle.std.proofs.lemmas.List.{get_or_default}
 use Rattle.chip.specs.Lists.{tabulate}
 use Rattle.chip.specs.Ranges.{any_below}
 use Rattle.chip.proofs.Laws.Lists.{tabulated, tabulate-same, length-tabulate, get_d_tabulate}
 use Rattle.chip.proofs.Laws.Ranges.{none-holds, any-or}
 use Rattle.planes.specs.Pixel.{over, first_non_zero}
+use Rattle.planes.specs.Origin.{in_front, frontmost}
+use Rattle.planes.specs.declared.origin.Origin.TheVariants as origin
+use Rattle.planes.specs.declared.origin.Pixel.{Pixel}
 use Rattle.sprites.specs.Pixels.{visible, hits, sprite_colours, numbered_colours, any_hits, meet, reach, coincidence}
 use Rattle.sprites.specs.Codes.{first_number}
+use Rattle.sprites.specs.Scanned.{no_sprite, AsRead, Held}
+use Rattle.sprites.specs.declared.scan.Scan.{Scan}
 use Rattle.sprites.specs.declared.sprite.Sprite.{Sprite}
 
 -- where a sprite has a colour, it is its own
@@ -43,24 +49,14 @@ module _ {r : List ℕ} {l : List Sprite} {old line : List ℕ} {met : Bool} (o 
       line_at : (x : ℕ) → x < 256 → get_or line x 0 ≡ first_non_zero (sprite_colours r l (visible x)) (get_or old x 0)
       line_at x h = ap (λ (t : List ℕ). get_or t x 0) o.shown ∙ get_d_tabulate 256 _ x h
 
--- What stands after their numbers are painted over a line of codes.
-pub record Numbered (r : List ℕ) (l : List Sprite) (old line : List ℕ) : Type 0 where
-  pub shown : line ≡ tabulate 256 (λ x. first_number (numbered_colours r l (visible x)) (get_or old x 0))
+-- The last of some sprites is drawn first: the others over it.
+pub last-number : (r : List ℕ) (l : List Sprite) (s : Sprite) (c behind : ℕ) → first_number (numbered_colours r (l ++ (s ∷ [])) c) behind ≡ first_number (numbered_colours r l c) (cond (eqb (cond (hits r s c) s.colour 0) 0) behind s.number)
+last-number r [] s c behind = refl
+last-number r (t ∷ l) s c behind = ap (λ (k : ℕ). cond (eqb (cond (hits r t c) t.colour 0) 0) k t.number) (last-number r l s c behind)
 
-pub numbered-none : {r old : List ℕ} → length old ≡ 256 → Numbered r [] old old
-numbered-none e = record { shown = tabulated e (λ i h. refl) }
-
-pub numbered-one : {r : List ℕ} {l : List Sprite} {old line new : List ℕ} (s : Sprite) → Numbered r l old line → new ≡ tabulate 256 (λ x. cond (eqb (cond (hits r s (visible x)) s.colour 0) 0) (get_or line x 0) s.number) → Numbered r (s ∷ l) old new
-numbered-one {r} {l} {old} {line} s o en =
-    record {
-      shown =
-          en
-          ∙ tabulate-same 256
-          (λ x h. ap (λ (k : ℕ). cond (eqb (cond (hits r s (visible x)) s.colour 0) 0) k s.number) (ap (λ (t : List ℕ). get_or t x 0) o.shown ∙ get_d_tabulate 256 _ x h));
-    }
-
-pub numbered-long : {r : List ℕ} {l : List Sprite} {old line : List ℕ} → Numbered r l old line → length line ≡ 256
-numbered-long o = ap length o.shown ∙ length-tabulate 256 _
+pub last-pixel : (r : List ℕ) (l : List Sprite) (s : Sprite) (c : ℕ) (behind : Pixel) → frontmost (numbered_colours r (l ++ (s ∷ [])) c) behind ≡ frontmost (numbered_colours r l c) (in_front (cond (hits r s c) s.colour 0) (origin.Sprite s.number) behind)
+last-pixel r [] s c behind = refl
+last-pixel r (t ∷ l) s c behind = ap (in_front (cond (hits r t c) t.colour 0) (origin.Sprite t.number)) (last-pixel r l s c behind)
 
 -- the sprites from k - 1 on
 pub one_lower : (sprites : List Sprite) (n k : ℕ) (d : Sprite) → 0 < k → k ≤ n → n ≤ length sprites → drop (k - 1) (take n sprites) ≡ get_or sprites (k - 1) d ∷ drop k (take n sprites)
@@ -72,3 +68,12 @@ one_lower sprites n k d pos le room =
 
 pub none-higher : (sprites : List Sprite) (n : ℕ) → n ≤ length sprites → drop n (take n sprites) ≡ []
 none-higher sprites n room = drop_of_length-le (take n sprites) {i = n} (omega (arith, length-take-le n sprites room))
+
+-- each of those that a scan found, from k on
+pub held-from : {r : List ℕ} {scan : Scan} → Held r scan → (k j : ℕ) (d : Sprite) → j < length (drop k (take scan.drawn scan.sprites)) → AsRead r (get_or (drop k (take scan.drawn scan.sprites)) j d)
+held-from {r} {scan} held k j d h =
+    let long : length (take scan.drawn scan.sprites) ≡ scan.drawn = length-take-le scan.drawn scan.sprites (omega (arith, held.room, held.few)) in
+    let low : k + j < scan.drawn = omega (arith, length-drop k (take scan.drawn scan.sprites)) in
+    let same : get_or (drop k (take scan.drawn scan.sprites)) j d ≡ get_or scan.sprites (k + j) no_sprite =
+    get_or-drop k (take scan.drawn scan.sprites) j d ∙ get_or-take scan.drawn scan.sprites (k + j) d low ∙ get_or_default scan.sprites (k + j) d no_sprite (omega (arith, held.room, held.few)) in
+    rw same (held.as_read (k + j) (omega (arith, held.few)))

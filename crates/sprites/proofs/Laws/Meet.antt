@@ -1,5 +1,6 @@
 -- Sprites that have a set bit at the same column.
 use Rattle.std.proofs.Common.{◌≡◌, ℕ, ◌+◌, ◌-◌, ◌*◌, ◌/◌, ◌%◌, ◌<◌, ◌≤◌, max, Bool, true, false, cond, ◌&&◌, ◌||◌, List, [], ◌∷◌, sym, refl, ap, ◌∙◌, arith}
+use Rattle.std.specs.List.{list_any}
 use native.Mathlib.Decide.{dec_lt}
 use mathlib.Core.Bool.{and-or_distrib_left}
 use Rattle.chip.specs.Modes.{large_sprites, magnified}
@@ -75,3 +76,7 @@ module _ (r : List ℕ) (s : Sprite) where
   -- one sprite more
   pub meets-more : (t : Sprite) (l : List Sprite) → (any_below reach (λ c. hits r s c && hits r t c) || any_below reach (λ c. hits r s c && any_hits r l c)) ≡ any_below reach (λ c. hits r s c && any_hits r (t ∷ l) c)
   meets-more t l = sym (any_same reach _ _ (λ c h. and-or_distrib_left (hits r s c) (hits r t c) (any_hits r l c)) ∙ any-or reach (λ c. hits r s c && hits r t c) (λ c. hits r s c && any_hits r l c))
+
+  pub meets-any : (l : List Sprite) → list_any (λ t. any_below reach (λ c. hits r s c && hits r t c)) l ≡ any_below reach (λ c. hits r s c && any_hits r l c)
+  meets-any [] = meets-none
+  meets-any (t ∷ l) = ap (λ (b : Bool). any_below reach (λ c. hits r s c && hits r t c) || b) (meets-any l) ∙ meets-more t l

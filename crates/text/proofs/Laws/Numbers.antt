@@ -11,15 +11,15 @@ use Rattle.text.specs.Numbers.{digit, three_digits, decimal, long_decimal}
 use Rattle.text.specs.Lines.{run_text, bounds_text}
 
 module _ (n : ℕ) where
-  pub one-digit : n < 10 → decimal n ≡ digit n ∷ []
+  one-digit : n < 10 → decimal n ≡ digit n ∷ []
   unfolding decimal
   one-digit h = rw (lt-ltb n 10 h)
 
-  pub two_digits : 10 ≤ n → n < 100 → decimal n ≡ digit (n / 10) ∷ digit (n % 10) ∷ []
+  two_digits : 10 ≤ n → n < 100 → decimal n ≡ digit (n / 10) ∷ digit (n % 10) ∷ []
   unfolding decimal
   two_digits h k = rw (le-ltb n 10 h, lt-ltb n 100 k)
 
-  pub three-digits : 100 ≤ n → decimal n ≡ three_digits n
+  three-digits : 100 ≤ n → decimal n ≡ three_digits n
   unfolding decimal
   three-digits h = rw (le-ltb n 10 (omega arith), le-ltb n 100 h)
 
@@ -32,7 +32,7 @@ module _ (n : ℕ) where
       by false false e f = let s = ap length (three-digits (ltb-false n 100 f)) in (omega arith, λ small. absurd (omega (arith, ltb-false n 10 e)))
 
   -- a number from 1,000 on has its thousands before its last three digits
-  pub no-thousands : n < 1000 → long_decimal n ≡ decimal n
+  no-thousands : n < 1000 → long_decimal n ≡ decimal n
   unfolding long_decimal
   no-thousands h = rw (lt-ltb n 1000 h)
 
@@ -64,3 +64,9 @@ length_run n colour some = by (ltb n 10) refl
 pub length-bounds : (a b : ℕ) → length (bounds_text a b) ≤ 13
 unfolding bounds_text
 length-bounds a b = omega (arith, length-append (decimal a) (45 ∷ decimal b), (length-decimal a).0, (length-decimal b).0)
+
+-- how far a number, or the bounds of a range, can put an end
+pub decimal-short : (n : ℕ) → length (decimal n) ≤ 3
+decimal-short n = (length-decimal n).0
+
+pub ruleset lengths = (decimal-short, length-long, length-bounds)

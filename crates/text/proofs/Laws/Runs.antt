@@ -1,13 +1,14 @@
 -- Runs of a line from column i on, and when two lines are the same.
-use Prim.Native.Nat.{ℕ, suc, ◌+◌, ◌*◌, ◌≤◌, ◌<◌}
+use Prim.Native.Nat.{ℕ, suc, ◌+◌, ◌-◌, ◌*◌, ◌≤◌, ◌<◌}
 use native.Mathlib.Omega.{arith}
 use native.Mathlib.Numerals.{add-one}
-use mathlib.Core.Path.{◌≡◌, refl, ap, ap₂, sym, ◌∙◌}
+use mathlib.Core.Path.{◌≡◌, refl, ap, sym, ◌∙◌}
 use mathlib.Core.Bool.{Bool, true, false, cond, ◌&&◌}
 use mathlib.Core.List.{List, [], ◌∷◌, append-nil}
 use lib.Dec.{eqb}
-use lib.ListN.{length, length-append, get_or, drop, drop_of_length-le}
-use lib.Seq.{drop-cons}
+use lib.ListN.{length, length-append, get_or, take, drop, drop_of_length-le}
+use lib.Pointwise.{pointwise}
+use lib.Seq.{drop-cons, take_all}
 use Rattle.text.specs.Lines.{run_text, runs_text}
 use Rattle.text.proofs.Laws.Numbers.{length_run}
 use borrow.Author.Tests.{eq-eqb, ne_eqb}
@@ -16,6 +17,13 @@ use Rattle.text.specs.Runs.{runs_after, runs, same}
 -- the list from i on, by its first element
 from : (l : List ℕ) (i : ℕ) → i < length l → drop i l ≡ get_or l i 0 ∷ drop (i + 1) l
 from l i h = rw (add-one, drop-cons l i 0)
+
+-- an element behind the first
+pub behind-first : (l : List ℕ) (i : ℕ) → get_or (take (length l - 1) (drop 1 l)) i 0 ≡ get_or l (i + 1) 0
+behind-first [] i = refl
+behind-first (x ∷ l) i =
+    ap (λ (t : List ℕ). get_or t i 0) (take_all (length (x ∷ l) - 1) l (omega arith))
+    ∙ ap (λ (k : ℕ). get_or (x ∷ l) k 0) (sym (add-one i))
 
 pub runs-start : (l : List ℕ) → 0 < length l → runs eqb l ≡ runs_after eqb 1 (get_or l 0 0) (drop 1 l)
 unfolding runs
@@ -38,14 +46,13 @@ module _ (l : List ℕ) (k y i : ℕ) where
   unfolding runs_after
   run-last h = ap (runs_after eqb k y) (drop_of_length-le l h)
 
-module _ (a b : List ℕ) (i : ℕ) where
-  pub same_from : i < length a → i < length b → same (drop i a) (drop i b) ≡ (eqb (get_or a i 0) (get_or b i 0) && same (drop (i + 1) a) (drop (i + 1) b))
-  unfolding same
-  same_from ha hb = ap₂ same (from a i ha) (from b i hb)
-
-  pub same_end : length a ≤ i → length b ≤ i → same (drop i a) (drop i b) ≡ true
-  unfolding same
-  same_end ha hb = ap₂ same (drop_of_length-le a ha) (drop_of_length-le b hb)
+-- `==` of lines compares their colours one by one
+pub pointwise_is_same : (a b : List ℕ) → pointwise eqb a b ≡ same a b
+unfolding same
+pointwise_is_same [] [] = refl
+pointwise_is_same [] (y ∷ b) = refl
+pointwise_is_same (x ∷ a) [] = refl
+pointwise_is_same (x ∷ a) (y ∷ b) = ap (λ (t : Bool). eqb x y && t) (pointwise_is_same a b)
 
 -- the text of a line's runs takes at most six characters for each column
 length-after : (k y : ℕ) (l : List ℕ) → 1 ≤ k → length (runs_text (runs_after eqb k y l)) ≤ 6 * (k + length l)

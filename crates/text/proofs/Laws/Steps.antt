@@ -6,36 +6,36 @@ use mathlib.Core.Bool.{Bool, true, false, cond, ◌&&◌}
 use mathlib.Core.List.{List}
 use lib.Dec.{eqb, ltb, leb}
 use lib.ListN.{length, replicate}
-use borrow.Author.Tests.{le-leb, lt-leb, ltb-true, leb-true, eqb-true}
+use borrow.Author.Tests.{le-leb, ltb-true, leb-true, eqb-true}
 use Rattle.chip.specs.Lists.{put_at}
 use Rattle.chip.specs.State.{masked, well_formed, power_up_state}
 use Rattle.chip.specs.declared.state.Chip.{Chip}
+use Rattle.std.specs.Prelude.{Ok, Err}
+use Rattle.chip.specs.Refusals.{Outcome, giving}
 use Rattle.chip.specs.declared.refusal.Answer.{Answer}
+use Rattle.chip.specs.declared.refusal.Refusal.{Refusal}
 use Rattle.chip.proofs.Laws.Ranges.{and_left, and_right}
 use Rattle.chip.proofs.Laws.State.{masked-in}
 use Rattle.chip.proofs.Laws.Refusals.{differ}
-use Rattle.snapshot.specs.Calls.{read_snapshot}
-use Rattle.scanline.specs.Notes.{status_through}
-use Rattle.scanline.specs.Calls.{colours}
-use Rattle.frame.specs.Draw.{notes_of}
+use Rattle.snapshot.specs.Calls.{read_refusal, read_snapshot}
 use Rattle.text.specs.Runs.{same}
-use Rattle.text.specs.Lines.{status_text}
-use Rattle.text.specs.Pieces.{Step}
-use Rattle.text.specs.Walk.{first_next, start_walk, piece_of, going, range_so_far, writes_nothing, refused_step, status_step, line_step_by, line_step, end_step, next_at, drawable, step_at, step_of, left_from, steps_left}
+use Rattle.text.specs.Pieces.{piece_of, writes_nothing}
+use Rattle.text.specs.Walk.{first_next, start_walk, refused_step, status_step, line_step_by, line_step, end_step, next_at, drawable, step_at, step_of, left_from, steps_left}
 use Rattle.text.specs.declared.walk.Next.{Next}
 use Rattle.text.specs.declared.walk.Next.TheVariants.{Refused, Status, Line, End}
 use Rattle.text.specs.declared.walk.Walk.{Walk}
-use Rattle.text.specs.declared.walk.Piece.{Piece}
+use Rattle.text.specs.declared.pieces.Piece.{Piece}
 use Rattle.text.proofs.Laws.Put.{put-fits}
 
--- the answer, by how many bytes the step wrote
-pub piece : (s : Step Walk) {n : ℕ} → n ≡ length s.bytes → record { walk = s.walk; written = n; last = s.last } ≡ piece_of s
-piece s e i = record { walk = s.walk; written = e i; last = s.last }
+-- what is first follows from the tests alone
+first-given : (r : Outcome) (v : ℕ) → first_next (giving r v) ≡ first_next r
+first-given (Ok x) v = refl
+first-given (Err n) v = refl
 
 -- the walk that `start` answers
-pub started : (vram file : List ℕ) {a : Answer} {next : Next} → a ≡ read_snapshot power_up_state vram file → next ≡ first_next a.refusal → record { next = next; chip = a.chip; from = 0; to = 0; colours = replicate 256 0 } ≡ start_walk vram file
+pub started : (vram file : List ℕ) {a : Answer} {next : Next} → a ≡ read_snapshot power_up_state vram file → next ≡ first_next a.result → record { next = next; chip = a.chip; from = 0; to = 0; colours = replicate 256 0 } ≡ start_walk vram file
 started vram file e f =
-    let next = f ∙ ap (λ (a : Answer). first_next a.refusal) e in
+    let next = f ∙ ap (λ (a : Answer). first_next a.result) e ∙ first-given (read_refusal vram file) 0 in
     λ i. record { next = next i; chip = (e i).chip; from = 0; to = 0; colours = replicate 256 0 }
 
 -- lines can be drawn
@@ -45,30 +45,12 @@ draws c vram d = (
   eqb-true (length vram) 16384 (and_left (eqb (length vram) 16384) (well_formed c) d),
 )
 
--- the status line
-pub status-written : (vram : List ℕ) (w : Walk) (out : List ℕ) {after n : ℕ} {out' line : List ℕ} → after ≡ status_through w.chip.status (notes_of w.chip.registers vram) → (n ≡ length (status_text w.chip.status after)) × (out' ≡ put_at 0 (status_text w.chip.status after) out) → line ≡ colours w.chip.registers vram 0 → (record { walk = going w (Line 1) 0 0 line; written = n; last = false } ≡ piece_of (status_step vram w)) × (out' ≡ put_at 0 (status_step vram w).bytes out)
-status-written vram w out {after} {n} {out'} {line} s p e =
-    let q : (n ≡ length (status_step vram w).bytes) × (out' ≡ put_at 0 (status_step vram w).bytes out) = rw s at p in
-    (λ i. record { walk = going w (Line 1) 0 0 (e i); written = q.0 i; last = false }, q.1)
-
--- line l, where it goes on with the range so far, and where it starts the next
-module _ (vram : List ℕ) (w : Walk) (l : ℕ) {line : List ℕ} (drawn : line ≡ colours w.chip.registers vram l) {after : Next} (next : after ≡ next_at (l + 1)) where
-  by-same : {b : Bool} → same w.colours line ≡ b → line_step vram w l ≡ line_step_by b w l line
-  unfolding line_step
-  by-same e = ap (λ (x : List ℕ). line_step_by (same w.colours x) w l x) (sym drawn) ∙ ap (λ (b : Bool). line_step_by b w l line) e
-
-  pub goes_on : same w.colours line ≡ true → (out : List ℕ) → (record { walk = going w after w.from l w.colours; written = 0; last = false } ≡ piece_of (line_step vram w l)) × (out ≡ put_at 0 (line_step vram w l).bytes out)
-  goes_on e out = rw (by-same e) (λ i. record { walk = going w (next i) w.from l w.colours; written = 0; last = false }, refl)
-
-  pub starts-next : same w.colours line ≡ false → (out : List ℕ) {n : ℕ} {out' : List ℕ} → (n ≡ length (range_so_far w)) × (out' ≡ put_at 0 (range_so_far w) out) → (record { walk = going w after l l line; written = n; last = false } ≡ piece_of (line_step vram w l)) × (out' ≡ put_at 0 (line_step vram w l).bytes out)
-  starts-next e out p = rw (by-same e) (λ i. record { walk = going w (next i) l l line; written = p.0 i; last = false }, p.1)
-
 module _ (vram : List ℕ) (w : Walk) where
   by_next : {n : Next} → w.next ≡ n → step_of vram w ≡ step_at vram n w
   unfolding step_of
   by_next e = ap (λ (m : Next). step_at vram m w) e
 
-  pub step-refused : {n : ℕ} → w.next ≡ Refused n → step_of vram w ≡ refused_step w n
+  pub step-refused : {r : Refusal} → w.next ≡ Refused r → step_of vram w ≡ refused_step w r
   unfolding step_at
   step-refused e = by_next e
 
@@ -80,23 +62,9 @@ module _ (vram : List ℕ) (w : Walk) where
   unfolding step_at
   step-status e d = by_next e ∙ ap (λ (b : Bool). cond b (status_step vram w) (writes_nothing w)) d
 
-  pub no-status : w.next ≡ Status → drawable w.chip vram ≡ false → step_of vram w ≡ writes_nothing w
+  pub step_line : {l : ℕ} → w.next ≡ Line l → l < 192 → drawable w.chip vram ≡ true → step_of vram w ≡ line_step vram w l
   unfolding step_at
-  no-status e d = by_next e ∙ ap (λ (b : Bool). cond b (status_step vram w) (writes_nothing w)) d
-
-  module _ {l : ℕ} (e : w.next ≡ Line l) where
-    line-or-nothing : {b d : Bool} → leb l 191 ≡ b → drawable w.chip vram ≡ d → step_of vram w ≡ cond (b && d) (line_step vram w l) (writes_nothing w)
-    unfolding step_at
-    line-or-nothing p q = by_next e ∙ λ i. cond (p i && q i) (line_step vram w l) (writes_nothing w)
-
-    pub step_line : l < 192 → drawable w.chip vram ≡ true → step_of vram w ≡ line_step vram w l
-    step_line h d = line-or-nothing (le-leb l 191 (omega arith)) d
-
-    pub step_past : 191 < l → step_of vram w ≡ writes_nothing w
-    step_past h = line-or-nothing (lt-leb l 191 h) refl
-
-    pub no_line : l < 192 → drawable w.chip vram ≡ false → step_of vram w ≡ writes_nothing w
-    no_line h d = line-or-nothing (le-leb l 191 (omega arith)) d
+  step_line {l} e h d = by_next e ∙ λ i. cond (le-leb l 191 (omega arith) i && d i) (line_step vram w l) (writes_nothing w)
 
 -- A step that does not write the last piece leaves fewer steps.
 next-left : (l : ℕ) → l ≤ 191 → left_from (next_at (l + 1)) < 193 - l
@@ -132,9 +100,9 @@ module _ (vram : List ℕ) where
   fewer-left w more = fewer-at w.next w more
 
 -- what a caller knows by the answer of `step`
-module _ (vram : List ℕ) (w : Walk) {p : Piece} (e : p ≡ piece_of (step_of vram w)) where
+module _ (vram : List ℕ) (w : Walk) {p : Piece Walk} (e : p ≡ piece_of (step_of vram w)) where
   pub falls : p.last ≡ false → steps_left p.walk < steps_left w
-  falls more = subst⁻¹ (λ (q : Piece). steps_left q.walk < steps_left w) e (fewer-left vram w (sym (ap (λ (q : Piece). q.last) e) ∙ more))
+  falls more = subst⁻¹ (λ (q : Piece Walk). steps_left q.walk < steps_left w) e (fewer-left vram w (sym (ap (λ (q : Piece Walk). q.last) e) ∙ more))
 
   pub fits : (out : List ℕ) {out' : List ℕ} → out' ≡ put_at 0 (step_of vram w).bytes out → p.written ≤ length out'
-  fits out {out'} left = subst⁻¹ (λ (q : Piece). q.written ≤ length out') e (put-fits (step_of vram w).bytes out left)
+  fits out {out'} left = subst⁻¹ (λ (q : Piece Walk). q.written ≤ length out') e (put-fits (step_of vram w).bytes out left)

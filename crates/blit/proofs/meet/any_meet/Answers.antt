@@ -2,30 +2,33 @@
 use native.Mathlib.Omega.{arith}
 use mathlib.Core.Path.{◌≡◌, sym, ap₂, ◌∙◌}
 use mathlib.Core.Bool.{false, ◌||◌}
-use borrow.Author.Rules.{rules}
+use lib.ListN.{get_or}
 use Rattle.chip.specs.Ranges.{any_below}
 use Rattle.chip.proofs.Laws.Ranges.{one_holds}
-use Rattle.blit.specs.Wide.{places_meet}
+use Rattle.blit.specs.Wide.{no_wide, wides_meet}
 use Rattle.blit.proofs.Laws.Meet.{any_none, any-more}
-use Rattle.blit.proofs.Laws.Columns.{none-meets}
+use Rattle.blit.proofs.Laws.Columns.{lower-meet, none-meets}
 use Rattle.blit.proofs.meet.any_meet.Goals as goal
-use Rattle.blit.proofs.meet.any_meet.Goals.{then-overlaps_lower+else-meets_lower, else-overlaps_lower}
+use Rattle.blit.proofs.meet.any_meet.Goals.{else-overlaps_lower-via-then-overlaps_lower+else-meets_lower, else-overlaps_lower-via-else-overlaps_lower}
 
 pub loop-k-init : goal.loop-k-init
-loop-k-init c = (search rules, any_none _)
+loop-k-init c = any_none _
 
 pub returns-then-meets_lower : goal.returns-then-meets_lower
 returns-then-meets_lower c =
-    let a = c.args in
-    sym (one_holds a.n (λ j. any_below j (λ i. places_meet a.firsts.now a.rows.now i j)) c.loop-k.k (omega arith) (sym c.meets_lower.ensures ∙ c.if-meets_lower.true))
+    let l = c.args.found.now in
+    let k = c.loop-k.k in
+    let w = c.index-found-k.result in
+    sym (one_holds _ (λ j. any_below j (λ i. wides_meet (get_or l i no_wide) (get_or l j no_wide))) k (omega arith) (sym (lower-meet l k w (omega arith) c.index-found-k.is) ∙ sym c.meets_lower.ensures ∙ c.if-meets_lower.true))
 
 pub loop-k-preserved : goal.loop-k-preserved
 loop-k-preserved c =
-    let a = c.args in
+    let l = c.args.found.now in
     let k = c.loop-k.k in
-    let here : any_below k (λ i. places_meet a.firsts.now a.rows.now i k) ≡ false
-    = elim c.if-overlaps_lower.branch [
-      | then-overlaps_lower+else-meets_lower w ↦ sym w.meets_lower.ensures ∙ w.if-meets_lower.false
-      | else-overlaps_lower w ↦ none-meets a.firsts.now a.rows.now k (sym c.overlaps_lower.ensures ∙ w.if-overlaps_lower.false)
+    let w = c.index-found-k.result in
+    let here : any_below k (λ i. wides_meet (get_or l i no_wide) (get_or l k no_wide)) ≡ false
+    = elim c.else-overlaps_lower.branch [
+      | else-overlaps_lower-via-then-overlaps_lower+else-meets_lower b ↦ sym (lower-meet l k w (omega arith) c.index-found-k.is) ∙ sym b.meets_lower.ensures ∙ b.if-meets_lower.false
+      | else-overlaps_lower-via-else-overlaps_lower b ↦ none-meets l k w (omega arith) c.index-found-k.is (sym c.overlaps_lower.ensures ∙ b.if-overlaps_lower.false)
     ] in
-    (search rules, any-more k (λ j. any_below j (λ i. places_meet a.firsts.now a.rows.now i j)) ∙ ap₂ ◌||◌ c.loop-k.invariant.1 here)
+    any-more k (λ j. any_below j (λ i. wides_meet (get_or l i no_wide) (get_or l j no_wide))) ∙ ap₂ ◌||◌ c.loop-k.invariant here

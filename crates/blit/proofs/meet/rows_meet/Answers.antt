@@ -1,7 +1,7 @@
 -- `rows_meet` meets its contract.
 use Prim.Native.Nat.{◌+◌}
 use native.Mathlib.Omega.{arith}
-use mathlib.Core.Path.{sym}
+use mathlib.Core.Path.{sym, ◌∙◌}
 use borrow.Author.Tests.{le-ltb}
 use Rattle.chip.proofs.Laws.Ranges.{none-holds}
 use Rattle.blit.proofs.Laws.Shifted.{rows-meet}
@@ -15,4 +15,4 @@ returns-then-d-lt32 c =
 pub returns-else-d-lt32 : goal.returns-else-d-lt32
 returns-else-d-lt32 c =
     let d = c.args.d in
-    sym (none-holds 32 _ (λ k h. rw (le-ltb (k + d) 32 (omega arith))))
+    le-ltb d 32 (omega arith) ∙ sym (none-holds 32 _ (λ k h. rw (le-ltb (k + d) 32 (omega arith))))

@@ -10,13 +10,15 @@ use Rattle.blit.proofs.meet.two_meet.Goals as goal
 
 pub returns-then-f-g : goal.returns-then-f-g
 returns-then-f-g c =
-    let a = c.args in
-    c.rows_meet.ensures ∙ two-rows a.f a.v a.g a.w _ (omega arith) c.requires.1
+    let v = c.args.v in
+    let w = c.args.w in
+    c.rows_meet.ensures ∙ two-rows v.sprite.first v.row w.sprite.first w.row _ (omega arith) w.near
 
 pub returns-else-f-g : goal.returns-else-f-g
 unfolding rows_meet
 returns-else-f-g c =
-    let a = c.args in
+    let v = c.args.v in
+    let w = c.args.w in
     c.rows_meet-else-f-g.ensures
-    ∙ two-rows a.g a.w a.f a.v _ (omega arith) c.requires.0
-    ∙ any_same reach _ _ (λ k h. and_comm (shown_at a.g a.w k) (shown_at a.f a.v k))
+    ∙ two-rows w.sprite.first w.row v.sprite.first v.row _ (omega arith) v.near
+    ∙ any_same reach _ _ (λ k h. and_comm (shown_at w.sprite.first w.row k) (shown_at v.sprite.first v.row k))

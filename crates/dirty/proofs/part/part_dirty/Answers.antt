@@ -11,8 +11,7 @@ use Rattle.dirty.proofs.part.part_dirty.Goals as goal
 
 pub returns : goal.returns
 returns c =
-    let known = c.shared_slice_known-1.given in
     let map = c.args.map.now in
-    let bytes : Bytes map = λ i. omega (arith, known i) in
+    let bytes : Bytes map = λ i. omega (arith, c.type_inv.map i) in
     let clear : c.is_clear.result ≡ is_clear (take c.args.n (drop c.args.from map)) = rw add-sub_cancel_left at c.is_clear.ensures in
     ap not clear ∙ sym (part-dirty map bytes c.args.from c.args.n c.requires)

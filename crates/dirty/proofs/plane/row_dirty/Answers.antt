@@ -11,19 +11,19 @@ use Rattle.dirty.proofs.plane.row_dirty.Goals as goal
 
 pub returns-then-names_dirty : goal.returns-then-names_dirty
 returns-then-names_dirty c =
-    let by_names : (t : Bool) → c.names_dirty.result ≡ t → (k : ℕ) → k < 8 → let a = c.args in let l = 8 * a.row + k in any_dirty a.map.now (fetched (plane_of a.mode a.r l) a.vram.now) ≡ (t || (patterns_dirty a.mode a.r a.vram.now a.map.now l || colours_dirty a.mode a.r a.vram.now a.map.now l)) = λ t e k h. let a = c.args in
+    let by_names : (t : Bool) → c.names_dirty.result ≡ t → (k : ℕ) → k < 8 → let a = c.args in let l = 8 * a.row + k in any_dirty a.map.now (fetched (plane_of a.mode a.screen.registers l) a.screen.vram.now) ≡ (t || (patterns_dirty a.mode a.screen.registers a.screen.vram.now a.map.now l || colours_dirty a.mode a.screen.registers a.screen.vram.now a.map.now l)) = λ t e k h. let a = c.args in
     let l = 8 * a.row + k in
-    plane-dirty a.r a.vram.now a.map.now a.mode l
-    ∙ ap (λ (b : Bool). b || (patterns_dirty a.mode a.r a.vram.now a.map.now l || colours_dirty a.mode a.r a.vram.now a.map.now l)) (sym (c.names_dirty.ensures k h) ∙ e) in
+    plane-dirty a.screen.registers a.screen.vram.now a.map.now a.mode l
+    ∙ ap (λ (b : Bool). b || (patterns_dirty a.mode a.screen.registers a.screen.vram.now a.map.now l || colours_dirty a.mode a.screen.registers a.screen.vram.now a.map.now l)) (sym (c.names_dirty.ensures k h) ∙ e) in
     λ k h. full-bit k h ∙ sym (by_names true c.if-names_dirty.true k h)
 
 pub returns : goal.returns
 returns c =
-    let by_names : (t : Bool) → c.names_dirty.result ≡ t → (k : ℕ) → k < 8 → let a = c.args in let l = 8 * a.row + k in any_dirty a.map.now (fetched (plane_of a.mode a.r l) a.vram.now) ≡ (t || (patterns_dirty a.mode a.r a.vram.now a.map.now l || colours_dirty a.mode a.r a.vram.now a.map.now l)) = λ t e k h. let a = c.args in
+    let by_names : (t : Bool) → c.names_dirty.result ≡ t → (k : ℕ) → k < 8 → let a = c.args in let l = 8 * a.row + k in any_dirty a.map.now (fetched (plane_of a.mode a.screen.registers l) a.screen.vram.now) ≡ (t || (patterns_dirty a.mode a.screen.registers a.screen.vram.now a.map.now l || colours_dirty a.mode a.screen.registers a.screen.vram.now a.map.now l)) = λ t e k h. let a = c.args in
     let l = 8 * a.row + k in
-    plane-dirty a.r a.vram.now a.map.now a.mode l
-    ∙ ap (λ (b : Bool). b || (patterns_dirty a.mode a.r a.vram.now a.map.now l || colours_dirty a.mode a.r a.vram.now a.map.now l)) (sym (c.names_dirty.ensures k h) ∙ e) in
+    plane-dirty a.screen.registers a.screen.vram.now a.map.now a.mode l
+    ∙ ap (λ (b : Bool). b || (patterns_dirty a.mode a.screen.registers a.screen.vram.now a.map.now l || colours_dirty a.mode a.screen.registers a.screen.vram.now a.map.now l)) (sym (c.names_dirty.ensures k h) ∙ e) in
     λ k h.
-    bit-or k c.patterns_of.result c.colours_of.result
-    ∙ ap₂ ◌||◌ (c.patterns_of.ensures k h) (c.colours_of.ensures k h)
+    bit-or k c.cells_dirty.result c.cells_dirty-2.result
+    ∙ ap₂ ◌||◌ (c.cells_dirty.ensures k h) (c.cells_dirty-2.ensures k h)
     ∙ sym (by_names false c.if-names_dirty.false k h)

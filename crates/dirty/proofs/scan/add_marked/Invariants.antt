@@ -1,11 +1,8 @@
 -- `add_marked` meets its contract.
-use Prim.Native.Nat.{◌+◌, ◌-◌, ◌*◌}
+use Prim.Native.Nat.{◌+◌, ◌*◌}
 use Rattle.dirty.specs.Marks.{scan_dirty}
 use Rattle.dirty.proofs.Laws.Added.{Rows}
 use Rattle.dirty.proofs.scan.add_marked.Given as goal
 
 abbrev pub invariant-loop-row : goal.invariant-loop-row
-invariant-loop-row l = Rows (λ m k. scan_dirty l.r l.vram l.map (8 * m + k)) l.initial.rows l.row l.rows
-
-abbrev pub decreases-loop-row : goal.decreases-loop-row
-decreases-loop-row l = 24 - l.row
+invariant-loop-row l = Rows (λ m k. scan_dirty l.screen.registers l.screen.vram.now l.map (8 * m + k)) l.initial.rows l.row l.rows

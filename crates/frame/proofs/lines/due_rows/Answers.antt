@@ -13,14 +13,18 @@ pub returns-then-redraw : goal.returns-then-redraw
 unfolding due
 returns-then-redraw c =
     let a = c.args in
-    all-rows 255 (due a.redraw a.r a.vram.now a.map.now) true full-bit (λ l. rw c.if-redraw.true)
+    let r = a.screen.registers in
+    let vram = a.screen.vram.now in
+    all-rows 255 (due a.redraw r vram a.map.now) true full-bit (λ l. rw c.if-redraw.true)
 
 pub returns-then-is_clear : goal.returns-then-is_clear
 unfolding due
 returns-then-is_clear c =
     let a = c.args in
+    let r = a.screen.registers in
+    let vram = a.screen.vram.now in
     let clear = sym c.is_clear.ensures ∙ c.if-is_clear.true in
-    all-rows 0 (due a.redraw a.r a.vram.now a.map.now) false (λ k h. bit-zero k) (λ l. rw c.if-redraw.false (none-dirty a.map.now clear (fetched (line_of a.r l) a.vram.now)))
+    all-rows 0 (due a.redraw r vram a.map.now) false (λ k h. bit-zero k) (λ l. rw c.if-redraw.false (none-dirty a.map.now clear (fetched (line_of r l) vram)))
 
 pub returns : goal.returns
 unfolding due

@@ -9,7 +9,7 @@ use Rattle.frame.proofs.lines.line_sets.Goals as goal
 
 pub returns : goal.returns
 returns c =
-    let shows : c.has_sprites.result ≡ has_sprites (mode_of c.args.r) = rw c.requires.0 at c.has_sprites.ensures in
+    let shows : c.has_sprites.result ≡ has_sprites (mode_of c.args.screen.registers) = rw c.requires at c.has_sprites.ensures in
     let none = sym (shows) ∙ c.if-has_sprites.false in
     record {
       long = length-replicate {A = ℕ} 192 0;

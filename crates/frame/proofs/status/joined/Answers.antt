@@ -13,19 +13,18 @@ use Rattle.frame.specs.Status.{has_fifth, some}
 use Rattle.frame.proofs.Laws.Status.{fifth-told, met-told, one-joined}
 use Rattle.frame.proofs.status.joined.Goals as goal
 
-pub loop-i-preserved : goal.loop-i-preserved
-loop-i-preserved c =
+pub loop-note-preserved : goal.loop-note-preserved
+loop-note-preserved c =
     let notes = c.args.notes.now in (
-      omega arith,
-      rw add-one (one-joined 5 has_fifth fifth-told c.loop-i.joined notes c.loop-i.i (omega arith) ∙ c.loop-i.invariant.1),
-      rw add-one (one-joined 6 (bit 6) met-told c.loop-i.joined notes c.loop-i.i (omega arith) ∙ c.loop-i.invariant.2),
+      rw add-one (one-joined 5 has_fifth fifth-told c.loop-note.joined notes c.loop-note.note-index (omega arith) ∙ c.loop-note.invariant.0),
+      rw add-one (one-joined 6 (bit 6) met-told c.loop-note.joined notes c.loop-note.note-index (omega arith) ∙ c.loop-note.invariant.1),
     )
 
 pub returns : goal.returns
 unfolding some
 returns c =
     let notes = c.args.notes.now in
-    let whole : c.loop-i.i ≡ length notes = omega arith in
-    let none : drop c.loop-i.i notes ≡ [] = ap (λ (n : ℕ). drop n notes) whole ∙ drop-length notes in
-    let end : (p : ℕ → Bool) (t : Bool) → t ≡ (t || some p (drop c.loop-i.i notes)) = λ p t. sym (or-false t) ∙ ap (λ (m : List ℕ). t || some p m) (sym none) in
-    record { fifth = end has_fifth _ ∙ c.loop-i.invariant.1; met = end (bit 6) _ ∙ c.loop-i.invariant.2 }
+    let whole : c.loop-note.note-index ≡ length notes = omega arith in
+    let none : drop c.loop-note.note-index notes ≡ [] = ap (λ (n : ℕ). drop n notes) whole ∙ drop-length notes in
+    let end : (p : ℕ → Bool) (t : Bool) → t ≡ (t || some p (drop c.loop-note.note-index notes)) = λ p t. sym (or-false t) ∙ ap (λ (m : List ℕ). t || some p m) (sym none) in
+    record { fifth = end has_fifth _ ∙ c.loop-note.invariant.0; met = end (bit 6) _ ∙ c.loop-note.invariant.1 }

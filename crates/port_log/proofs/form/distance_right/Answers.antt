@@ -1,6 +1,5 @@
 -- `distance_right` meets its contract.
 use native.Mathlib.Omega.{arith}
-use Rattle.port_log.specs.Tests.{distance_right}
 use Rattle.port_log.proofs.Laws.Form.{sized}
 use Rattle.port_log.proofs.form.distance_right.Goals as goal
 
@@ -9,7 +8,3 @@ overflow_sub-trailer c = let s = sized _ c.requires in omega arith
 
 pub low_first_at-distance-requires : goal.low_first_at-distance-requires
 low_first_at-distance-requires c = let s = sized _ c.requires in omega arith
-
-pub returns : goal.returns
-unfolding distance_right
-returns c = simp c.low_first_at-distance.ensures

@@ -1,7 +1,5 @@
 -- `sum_right` meets its contract.
 use native.Mathlib.Omega.{arith}
-use Rattle.port_log.specs.Format.{record_bytes}
-use Rattle.port_log.specs.Tests.{log_sum_right}
 use Rattle.port_log.proofs.Laws.Form.{sized}
 use Rattle.port_log.proofs.form.sum_right.Goals as goal
 
@@ -10,7 +8,3 @@ overflow_sub-trailer c = let s = sized _ c.requires in omega arith
 
 pub low_first_at-stored-requires : goal.low_first_at-stored-requires
 low_first_at-stored-requires c = let s = sized _ c.requires in omega arith
-
-pub returns : goal.returns
-unfolding log_sum_right record_bytes
-returns c = simp (c.checksum.ensures, c.low_first_at-stored.ensures)

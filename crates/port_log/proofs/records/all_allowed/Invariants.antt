@@ -1,5 +1,5 @@
 -- `all_allowed`: the records before i are allowed, so those from i on decide.
-use Prim.Native.Nat.{ℕ, ◌+◌, ◌*◌, ◌-◌, ◌/◌, ◌≤◌, ◌<◌}
+use Prim.Native.Nat.{ℕ, ◌+◌, ◌*◌, ◌≤◌, ◌<◌}
 use native.Mathlib.Omega.{arith}
 use mathlib.Core.Path.{◌≡◌, ap, ◌∙◌}
 use mathlib.Core.Bool.{Bool, true, ◌&&◌}
@@ -22,7 +22,4 @@ unfolding all_allowed
 end l i h = ap all_allowed (records-none (drop (2 * i) l) (rw length-drop (omega arith)))
 
 abbrev pub invariant-loop-i : goal.invariant-loop-i
-invariant-loop-i l = (l.i ≤ l.count) × (l.count ≡ length l.bytes / 2) × (all_allowed (records_of l.bytes) ≡ all_from l.i l.bytes)
-
-abbrev pub decreases-loop-i : goal.decreases-loop-i
-decreases-loop-i l = l.count - l.i
+invariant-loop-i l = all_allowed (records_of l.bytes) ≡ all_from l.i l.bytes

@@ -7,55 +7,29 @@ use Rattle.port_log.specs.Run.{End, ran_of}
 use Rattle.port_log.proofs.Laws.Steps.{rest_over, rest-differs, rest-goes-on}
 use Rattle.port_log.proofs.running.run_records.Goals as goal
 
-pub returns-then-differs-clause-value : goal.returns-then-differs-clause-value
-returns-then-differs-clause-value c =
+pub returns-then-differs : goal.returns-then-differs
+returns-then-differs c =
     let a = c.args in
-    let end = c.loop-i.invariant.4 ∙ rest-differs a.records.now c.loop-i.i (omega arith) (target c.loop-i.chip c.loop-i.vram c.loop-i.map c.loop-i.line) c.record_at-record.ensures c.operation_of-operation.ensures c.make_call-answer.ensures.value c.make_call-answer.ensures.vram_after c.make_call-answer.ensures.map_after c.make_call-answer.ensures.line_after c.differs.ensures c.if-differs.true in
-    ap ran_of (sym end)
-
-pub returns-then-differs-clause-vram_after : goal.returns-then-differs-clause-vram_after
-returns-then-differs-clause-vram_after c =
-    let a = c.args in
-    let end = c.loop-i.invariant.4 ∙ rest-differs a.records.now c.loop-i.i (omega arith) (target c.loop-i.chip c.loop-i.vram c.loop-i.map c.loop-i.line) c.record_at-record.ensures c.operation_of-operation.ensures c.make_call-answer.ensures.value c.make_call-answer.ensures.vram_after c.make_call-answer.ensures.map_after c.make_call-answer.ensures.line_after c.differs.ensures c.if-differs.true in
-    ap (λ (e : End). e.target.vram) (sym end)
-
-pub returns-then-differs-clause-map_after : goal.returns-then-differs-clause-map_after
-returns-then-differs-clause-map_after c =
-    let a = c.args in
-    let end = c.loop-i.invariant.4 ∙ rest-differs a.records.now c.loop-i.i (omega arith) (target c.loop-i.chip c.loop-i.vram c.loop-i.map c.loop-i.line) c.record_at-record.ensures c.operation_of-operation.ensures c.make_call-answer.ensures.value c.make_call-answer.ensures.vram_after c.make_call-answer.ensures.map_after c.make_call-answer.ensures.line_after c.differs.ensures c.if-differs.true in
-    ap (λ (e : End). e.target.map) (sym end)
-
-pub returns-then-differs-clause-line_after : goal.returns-then-differs-clause-line_after
-returns-then-differs-clause-line_after c =
-    let a = c.args in
-    let end = c.loop-i.invariant.4 ∙ rest-differs a.records.now c.loop-i.i (omega arith) (target c.loop-i.chip c.loop-i.vram c.loop-i.map c.loop-i.line) c.record_at-record.ensures c.operation_of-operation.ensures c.make_call-answer.ensures.value c.make_call-answer.ensures.vram_after c.make_call-answer.ensures.map_after c.make_call-answer.ensures.line_after c.differs.ensures c.if-differs.true in
-    ap (λ (e : End). e.target.line) (sym end)
+    let end = c.loop-i.invariant.4 ∙ rest-differs a.records.now c.loop-i.i (omega arith) (target c.loop-i.chip c.loop-i.vram c.loop-i.map c.loop-i.line) c.record_at-record.ensures c.from-operation.ensures c.make_call-answer.ensures.value c.make_call-answer.ensures.vram_after c.make_call-answer.ensures.map_after c.make_call-answer.ensures.line_after c.unwrap_or-byte.ensures c.differs.ensures c.if-differs.true in
+    record {
+      value = ap ran_of (sym end);
+      vram_after = ap (λ (e : End). e.target.vram) (sym end);
+      map_after = ap (λ (e : End). e.target.map) (sym end);
+      line_after = ap (λ (e : End). e.target.line) (sym end);
+    }
 
 pub loop-i-preserved : goal.loop-i-preserved
 loop-i-preserved c =
     let a = c.args in
-    (search rules, search rules, search rules, search rules, c.loop-i.invariant.4 ∙ rest-goes-on a.records.now c.loop-i.i (omega arith) (target c.loop-i.chip c.loop-i.vram c.loop-i.map c.loop-i.line) c.record_at-record.ensures c.operation_of-operation.ensures c.make_call-answer.ensures.value c.make_call-answer.ensures.vram_after c.make_call-answer.ensures.map_after c.make_call-answer.ensures.line_after c.differs.ensures c.if-differs.false)
+    (search rules, search rules, search rules, search rules, c.loop-i.invariant.4 ∙ rest-goes-on a.records.now c.loop-i.i (omega arith) (target c.loop-i.chip c.loop-i.vram c.loop-i.map c.loop-i.line) c.record_at-record.ensures c.from-operation.ensures c.make_call-answer.ensures.value c.make_call-answer.ensures.vram_after c.make_call-answer.ensures.map_after c.make_call-answer.ensures.line_after c.unwrap_or-byte.ensures c.differs.ensures c.if-differs.false)
 
-pub returns-clause-value : goal.returns-clause-value
-returns-clause-value c =
+pub returns : goal.returns
+returns c =
     let a = c.args in
     let end = c.loop-i.invariant.4 ∙ rest_over a.records.now c.loop-i.i (target c.loop-i.chip c.loop-i.vram c.loop-i.map c.loop-i.line) (omega arith) in
-    ap ran_of (sym end)
-
-pub returns-clause-vram_after : goal.returns-clause-vram_after
-returns-clause-vram_after c =
-    let a = c.args in
-    let end = c.loop-i.invariant.4 ∙ rest_over a.records.now c.loop-i.i (target c.loop-i.chip c.loop-i.vram c.loop-i.map c.loop-i.line) (omega arith) in
-    ap (λ (e : End). e.target.vram) (sym end)
-
-pub returns-clause-map_after : goal.returns-clause-map_after
-returns-clause-map_after c =
-    let a = c.args in
-    let end = c.loop-i.invariant.4 ∙ rest_over a.records.now c.loop-i.i (target c.loop-i.chip c.loop-i.vram c.loop-i.map c.loop-i.line) (omega arith) in
-    ap (λ (e : End). e.target.map) (sym end)
-
-pub returns-clause-line_after : goal.returns-clause-line_after
-returns-clause-line_after c =
-    let a = c.args in
-    let end = c.loop-i.invariant.4 ∙ rest_over a.records.now c.loop-i.i (target c.loop-i.chip c.loop-i.vram c.loop-i.map c.loop-i.line) (omega arith) in
-    ap (λ (e : End). e.target.line) (sym end)
+    record {
+      value = ap ran_of (sym end);
+      vram_after = ap (λ (e : End). e.target.vram) (sym end);
+      map_after = ap (λ (e : End). e.target.map) (sym end);
+      line_after = ap (λ (e : End). e.target.line) (sym end);
+    }

@@ -1,7 +1,7 @@
 -- `redraw_row` meets its contract.
-use Prim.Native.Nat.{ℕ, ◌+◌, ◌*◌}
+use Prim.Native.Nat.{ℕ, ◌+◌, ◌*◌, ◌<◌}
 use native.Mathlib.Omega.{arith}
-use mathlib.Core.Path.{◌≡◌, refl, sym, ap, ◌∙◌}
+use mathlib.Core.Path.{◌≡◌, refl, ap, ◌∙◌}
 use mathlib.Core.Bool.{false}
 use mathlib.Core.List.{List}
 use borrow.Author.Tests.{eqb-true}
@@ -22,32 +22,33 @@ as_lent r vram row {due} {new} {old} Here whole same = whole_row r vram row (who
 as_lent r vram row {due} Beside whole same = ap (row_lines r vram row due) (same (λ e. let z : ◌≡◌ {A = ℕ} 0 1 = cc in omega arith))
 as_lent r vram row {due} Nowhere whole same = ap (row_lines r vram row due) (same (λ e. let z : ◌≡◌ {A = ℕ} 0 1 = cc in omega arith))
 
+none_due : {due : ℕ} → due ≡ 0 → (k : ℕ) → k < 8 → bit k due ≡ false
+none_due e k h = ap (bit k) e ∙ bit-zero k
+
 pub returns-then-due-eq0-clause-value : goal.returns-then-due-eq0-clause-value
-returns-then-due-eq0-clause-value c =
-    let a = c.args in
-    let none : (k : ℕ) → bit k a.due ≡ false = λ k. ap (bit k) c.if-due-eq0.true ∙ bit-zero k in
-    no-count (λ k. bit k a.due) 8 (λ k h. none k)
+returns-then-due-eq0-clause-value c = no-count (λ k. bit k c.args.due) 8 (none_due c.if-due-eq0.true)
 
 pub returns-then-due-eq0-clause-part_after : goal.returns-then-due-eq0-clause-part_after
 returns-then-due-eq0-clause-part_after c =
     let a = c.args in
-    let none : (k : ℕ) → bit k a.due ≡ false = λ k. ap (bit k) c.if-due-eq0.true ∙ bit-zero k in
-    frame-stays (λ k. bit k a.due) 8 (λ k h. none k) (λ k. colours a.r a.vram.now (8 * a.row + k)) a.part.now c.requires.8
+    let r = a.drawing.now.brush.screen.registers in
+    let vram = a.drawing.now.brush.screen.vram.now in
+    frame-stays (λ k. bit k a.due) 8 (none_due c.if-due-eq0.true) (λ k. colours r vram (8 * a.row + k)) a.part.now c.requires.2
 
 pub returns-then-due-eq0-clause-notes_after : goal.returns-then-due-eq0-clause-notes_after
 returns-then-due-eq0-clause-notes_after c =
     let a = c.args in
-    let none : (k : ℕ) → bit k a.due ≡ false = λ k. ap (bit k) c.if-due-eq0.true ∙ bit-zero k in
-    notes-stay (λ k. bit k a.due) 8 (λ k h. none k) (λ k. note_at a.r a.vram.now (8 * a.row + k)) a.notes.now c.requires.9
+    let r = a.drawing.now.brush.screen.registers in
+    let vram = a.drawing.now.brush.screen.vram.now in
+    notes-stay (λ k. bit k a.due) 8 (none_due c.if-due-eq0.true) (λ k. note_at r vram (8 * a.row + k)) a.notes.now c.requires.3
 
 pub returns-then-due-no_sprites-clause-value : goal.returns-then-due-no_sprites-clause-value
 returns-then-due-no_sprites-clause-value c =
-    let whole : c.args.due ≡ 255 = eqb-true _ 255 (and_left _ c.no_sprites.result c.if-due-no_sprites.true) in
-    let a = c.args in
-    let e = sym (whole) in
-    whole-count (whole)
+    whole-count (eqb-true _ 255 (and_left _ c.no_sprites.result c.if-due-no_sprites.true))
 
 pub returns-clause-part_after : goal.returns-clause-part_after
 returns-clause-part_after c =
     let a = c.args in
-    c.redraw_each.ensures.part_after ∙ as_lent a.r a.vram.now a.row c.draw_planes-planes.result (λ here. (c.draw_planes-planes.ensures.due_value here).0) c.draw_planes-planes.ensures.part_unchanged
+    let r = a.drawing.now.brush.screen.registers in
+    let vram = a.drawing.now.brush.screen.vram.now in
+    c.redraw_each.ensures.part_after ∙ as_lent r vram a.row c.draw_planes-planes.result (λ here. (c.draw_planes-planes.ensures.due_value here).0) c.draw_planes-planes.ensures.part_unchanged

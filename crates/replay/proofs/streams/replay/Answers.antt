@@ -1,186 +1,99 @@
 -- `replay` meets its contract.
 use Prim.Native.Nat.{ℕ, ◌-◌, ◌<◌}
 use native.Mathlib.Omega.{arith}
-use mathlib.Core.Path.{◌≡◌, refl, sym, ap, ◌∙◌}
-use mathlib.Core.Bool.{false}
+use mathlib.Core.Path.{◌≡◌, sym, ap, ◌∙◌}
 use mathlib.Core.List.{List}
 use lib.ListN.{length, take, drop, length-drop}
 use lib.Seq.{take_all}
-use borrow.Author.Tests.{eq-eqb, ne_eqb}
-use Rattle.chip.specs.State.{Bytes, power_up_state}
+use Rattle.std.specs.Prelude.{Ok, Err}
+use Rattle.chip.specs.State.{power_up_state}
 use Rattle.chip.specs.Map.{map_size}
 use Rattle.chip.specs.Ports.{cleared_vram}
-use Rattle.chip.specs.Refusals.{number_of, is_accepted}
+use Rattle.chip.specs.Refusals.{is_accepted, giving}
+use Rattle.chip.specs.declared.state.Chip.{Chip}
 use Rattle.chip.specs.declared.refusal.Answer.{Answer}
-use Rattle.chip.specs.declared.refusal.Refusal.TheVariants.{Accepted, SnapshotLength}
-use Rattle.chip.proofs.Laws.Refusals.{is-accepted}
+use Rattle.chip.specs.declared.refusal.Refusal.{Refusal}
+use Rattle.chip.specs.declared.refusal.Refusal.TheVariants.{SnapshotLength}
+use Rattle.chip.proofs.Laws.Refusals.{value-given}
 use Rattle.scanline.specs.Calls.{line_size}
 use Rattle.snapshot.specs.Calls.{read_snapshot, read_vram}
-use Rattle.port_log.specs.Run.{run_log}
+use Rattle.port_log.specs.Run.{run_log, run_vram}
+use Rattle.port_log.specs.declared.running.Reached.{Reached}
 use Rattle.port_log.specs.declared.running.Ran.{Ran}
-use Rattle.replay.specs.Streams.{snapshot_part, log_part, clear_list, ran, vram_after, replay_refusal, snapshot_refusal}
+use Rattle.text.proofs.Laws.Reading.{refusal-given}
+use Rattle.replay.specs.Streams.{snapshot_part, log_part, clear_list, ran, reached, vram_after, refusal_of_run, replay_refusal, snapshot_refusal}
 use Rattle.replay.proofs.Laws.Refused.{too_short, by-snapshot, by-run, refused-writes}
-use Rattle.replay.proofs.Laws.Accepted.{ran-from, vram-from, accepted-writes}
+use Rattle.replay.proofs.Laws.Accepted.{accepted-writes}
 use Rattle.replay.proofs.streams.replay.Goals as goal
 
-pub returns-then-input-lt16406-clause-value : goal.returns-then-input-lt16406-clause-value
-returns-then-input-lt16406-clause-value c =
-    let input_at : List ℕ = c.args.input.now in
-    let a = c.args in
-    let h : length (input_at) < 16406 = omega arith in
-    let e = too_short (input_at) h in
-    (refused-writes (input_at) SnapshotLength (by-snapshot (input_at) (ap is_accepted e) ∙ e) refl c.refuse.ensures.value a.output.now a.errors.now c.refuse.ensures.errors_after).0
+-- the slice behind the snapshot
+behind : (input : List ℕ) → take (length input - 16406) (drop 16406 input) ≡ log_part input
+behind input = take_all (length input - 16406) (drop 16406 input) (rw length-drop (omega arith))
 
-pub returns-then-input-lt16406-clause-output_after : goal.returns-then-input-lt16406-clause-output_after
-returns-then-input-lt16406-clause-output_after c =
-    let input_at : List ℕ = c.args.input.now in
-    let a = c.args in
-    let h : length (input_at) < 16406 = omega arith in
-    let e = too_short (input_at) h in
-    (refused-writes (input_at) SnapshotLength (by-snapshot (input_at) (ap is_accepted e) ∙ e) refl c.refuse.ensures.value a.output.now a.errors.now c.refuse.ensures.errors_after).1.0
+-- what the answer of reading the snapshot's part says, and what a run from there answers
+module _ (input : List ℕ) {p : Chip} {a : Answer} (up : p ≡ power_up_state) (said : a ≡ read_snapshot p cleared_vram (snapshot_part input)) where
+  read : a ≡ read_snapshot power_up_state cleared_vram (snapshot_part input)
+  read = rw up at said
 
-pub returns-then-input-lt16406-clause-errors_after : goal.returns-then-input-lt16406-clause-errors_after
-returns-then-input-lt16406-clause-errors_after c =
-    let input_at : List ℕ = c.args.input.now in
-    let a = c.args in
-    let h : length (input_at) < 16406 = omega arith in
-    let e = too_short (input_at) h in
-    (refused-writes (input_at) SnapshotLength (by-snapshot (input_at) (ap is_accepted e) ∙ e) refl c.refuse.ensures.value a.output.now a.errors.now c.refuse.ensures.errors_after).1.1
+  given : giving (snapshot_refusal input) 0 ≡ a.result
+  given = sym (ap (λ (x : Answer). x.result) read)
 
-pub returns-then-number-ne0-clause-value : goal.returns-then-number-ne0-clause-value
-returns-then-number-ne0-clause-value c =
-    let input_at : List ℕ = c.args.input.now in
-    let read_answer : c.read-answer.result ≡ read_snapshot power_up_state cleared_vram (snapshot_part (input_at)) = rw c.power_up_state.ensures at c.read-answer.ensures.value in
-    let input = input_at in
-    let a = c.args in
-    let is : snapshot_refusal input ≡ c.read-answer.result.refusal = sym (ap (λ (x : Answer). x.refusal) (read_answer)) in
-    let refuses : is_accepted c.read-answer.result.refusal ≡ false = ne_eqb (number_of c.read-answer.result.refusal) 0 (λ e. c.if-number-ne0.true (c.number.ensures ∙ e)) in
-    (refused-writes input c.read-answer.result.refusal (by-snapshot input (ap is_accepted is ∙ refuses) ∙ is) refuses c.refuse-then-number-ne0.ensures.value a.output.now a.errors.now c.refuse-then-number-ne0.ensures.errors_after).0
+  snapshot-refused : {r : Refusal} → a.result ≡ Err r → replay_refusal input ≡ Err r
+  snapshot-refused e = let is = refusal-given (snapshot_refusal input) 0 (given ∙ e) in by-snapshot input (ap is_accepted is) ∙ is
 
-pub returns-then-number-ne0-clause-output_after : goal.returns-then-number-ne0-clause-output_after
-returns-then-number-ne0-clause-output_after c =
-    let input_at : List ℕ = c.args.input.now in
-    let read_answer : c.read-answer.result ≡ read_snapshot power_up_state cleared_vram (snapshot_part (input_at)) = rw c.power_up_state.ensures at c.read-answer.ensures.value in
-    let input = input_at in
-    let a = c.args in
-    let is : snapshot_refusal input ≡ c.read-answer.result.refusal = sym (ap (λ (x : Answer). x.refusal) (read_answer)) in
-    let refuses : is_accepted c.read-answer.result.refusal ≡ false = ne_eqb (number_of c.read-answer.result.refusal) 0 (λ e. c.if-number-ne0.true (c.number.ensures ∙ e)) in
-    (refused-writes input c.read-answer.result.refusal (by-snapshot input (ap is_accepted is ∙ refuses) ∙ is) refuses c.refuse-then-number-ne0.ensures.value a.output.now a.errors.now c.refuse-then-number-ne0.ensures.errors_after).1.0
+  module _ {vram : List ℕ} (kept : vram ≡ read_vram cleared_vram (snapshot_part input)) where
+    ran-from : {r : Ran} → r ≡ run_log a.chip vram (clear_list map_size) (clear_list line_size) (take (length input - 16406) (drop 16406 input)) → r ≡ ran input
+    ran-from e = e ∙ λ i. run_log (read i).chip (kept i) (clear_list map_size) (clear_list line_size) (behind input i)
 
-pub returns-then-number-ne0-clause-errors_after : goal.returns-then-number-ne0-clause-errors_after
-returns-then-number-ne0-clause-errors_after c =
-    let input_at : List ℕ = c.args.input.now in
-    let read_answer : c.read-answer.result ≡ read_snapshot power_up_state cleared_vram (snapshot_part (input_at)) = rw c.power_up_state.ensures at c.read-answer.ensures.value in
-    let input = input_at in
-    let a = c.args in
-    let is : snapshot_refusal input ≡ c.read-answer.result.refusal = sym (ap (λ (x : Answer). x.refusal) (read_answer)) in
-    let refuses : is_accepted c.read-answer.result.refusal ≡ false = ne_eqb (number_of c.read-answer.result.refusal) 0 (λ e. c.if-number-ne0.true (c.number.ensures ∙ e)) in
-    (refused-writes input c.read-answer.result.refusal (by-snapshot input (ap is_accepted is ∙ refuses) ∙ is) refuses c.refuse-then-number-ne0.ensures.value a.output.now a.errors.now c.refuse-then-number-ne0.ensures.errors_after).1.1
+    vram-from : {v : List ℕ} → v ≡ run_vram a.chip vram (clear_list map_size) (clear_list line_size) (take (length input - 16406) (drop 16406 input)) → v ≡ vram_after input
+    vram-from e = e ∙ λ i. run_vram (read i).chip (kept i) (clear_list map_size) (clear_list line_size) (behind input i)
 
-pub returns-then-number-ne0-2-clause-value : goal.returns-then-number-ne0-2-clause-value
-returns-then-number-ne0-2-clause-value c =
-    let input_at : List ℕ = c.args.input.now in
-    let read_answer : c.read-answer.result ≡ read_snapshot power_up_state cleared_vram (snapshot_part (input_at)) = rw c.power_up_state.ensures at c.read-answer.ensures.value in
-    let read-accepted : snapshot_refusal (input_at) ≡ Accepted = sym (ap (λ (x : Answer). x.refusal) (read_answer))
-    ∙ is-accepted c.read-answer.result.refusal (eq-eqb (number_of c.read-answer.result.refusal) 0 (sym c.number.ensures ∙ c.if-number-ne0.false)) in
-    let whole : List ℕ = input_at in
-    let log-behind : take (length (whole) - 16406) (drop 16406 (whole)) ≡ log_part (whole) = take_all (length (whole) - 16406) (drop 16406 (whole)) (rw length-drop (omega arith)) in
-    let read-vram : c.read-answer.new.vram ≡ read_vram cleared_vram (snapshot_part (input_at)) = c.read-answer.ensures.vram_after in
-    let run-answer : c.run-ran.result ≡ ran (whole) = let lent : c.run-ran.result ≡ run_log c.read-answer.result.chip c.read-answer.new.vram (clear_list map_size) (clear_list line_size) (take (length (whole) - 16406) (drop 16406 (whole))) = c.run-ran.ensures.value in
-    lent ∙ ran-from (whole) (read_answer) (read-vram) (log-behind) in
-    let a = c.args in
-    let is : (ran (whole)).refusal ≡ c.run-ran.result.refusal = sym (ap (λ (x : Ran). x.refusal) (run-answer)) in
-    let refuses : is_accepted c.run-ran.result.refusal ≡ false = ne_eqb (number_of c.run-ran.result.refusal) 0 (λ e. c.if-number-ne0-2.true (c.number-2.ensures ∙ e)) in
-    (refused-writes (whole) c.run-ran.result.refusal (by-run (whole) (read-accepted) ∙ is) refuses c.refuse-then-number-ne0-2.ensures.value a.output.now a.errors.now c.refuse-then-number-ne0-2.ensures.errors_after).0
+  -- the run's own refusal counts
+  module _ {n : ℕ} (fine : a.result ≡ Ok n) {r : Ran} (run : r ≡ ran input) where
+    counts : replay_refusal input ≡ refusal_of_run input
+    counts = by-run input (value-given (snapshot_refusal input) 0 (given ∙ fine))
 
-pub returns-then-number-ne0-2-clause-output_after : goal.returns-then-number-ne0-2-clause-output_after
-returns-then-number-ne0-2-clause-output_after c =
-    let input_at : List ℕ = c.args.input.now in
-    let read_answer : c.read-answer.result ≡ read_snapshot power_up_state cleared_vram (snapshot_part (input_at)) = rw c.power_up_state.ensures at c.read-answer.ensures.value in
-    let read-accepted : snapshot_refusal (input_at) ≡ Accepted = sym (ap (λ (x : Answer). x.refusal) (read_answer))
-    ∙ is-accepted c.read-answer.result.refusal (eq-eqb (number_of c.read-answer.result.refusal) 0 (sym c.number.ensures ∙ c.if-number-ne0.false)) in
-    let whole : List ℕ = input_at in
-    let log-behind : take (length (whole) - 16406) (drop 16406 (whole)) ≡ log_part (whole) = take_all (length (whole) - 16406) (drop 16406 (whole)) (rw length-drop (omega arith)) in
-    let read-vram : c.read-answer.new.vram ≡ read_vram cleared_vram (snapshot_part (input_at)) = c.read-answer.ensures.vram_after in
-    let run-answer : c.run-ran.result ≡ ran (whole) = let lent : c.run-ran.result ≡ run_log c.read-answer.result.chip c.read-answer.new.vram (clear_list map_size) (clear_list line_size) (take (length (whole) - 16406) (drop 16406 (whole))) = c.run-ran.ensures.value in
-    lent ∙ ran-from (whole) (read_answer) (read-vram) (log-behind) in
-    let a = c.args in
-    let is : (ran (whole)).refusal ≡ c.run-ran.result.refusal = sym (ap (λ (x : Ran). x.refusal) (run-answer)) in
-    let refuses : is_accepted c.run-ran.result.refusal ≡ false = ne_eqb (number_of c.run-ran.result.refusal) 0 (λ e. c.if-number-ne0-2.true (c.number-2.ensures ∙ e)) in
-    (refused-writes (whole) c.run-ran.result.refusal (by-run (whole) (read-accepted) ∙ is) refuses c.refuse-then-number-ne0-2.ensures.value a.output.now a.errors.now c.refuse-then-number-ne0-2.ensures.errors_after).1.0
+    gives : giving (refusal_of_run input) (reached input) ≡ r.result
+    gives = sym (ap (λ (x : Ran). x.result) run)
 
-pub returns-then-number-ne0-2-clause-errors_after : goal.returns-then-number-ne0-2-clause-errors_after
-returns-then-number-ne0-2-clause-errors_after c =
-    let input_at : List ℕ = c.args.input.now in
-    let read_answer : c.read-answer.result ≡ read_snapshot power_up_state cleared_vram (snapshot_part (input_at)) = rw c.power_up_state.ensures at c.read-answer.ensures.value in
-    let read-accepted : snapshot_refusal (input_at) ≡ Accepted = sym (ap (λ (x : Answer). x.refusal) (read_answer))
-    ∙ is-accepted c.read-answer.result.refusal (eq-eqb (number_of c.read-answer.result.refusal) 0 (sym c.number.ensures ∙ c.if-number-ne0.false)) in
-    let whole : List ℕ = input_at in
-    let log-behind : take (length (whole) - 16406) (drop 16406 (whole)) ≡ log_part (whole) = take_all (length (whole) - 16406) (drop 16406 (whole)) (rw length-drop (omega arith)) in
-    let read-vram : c.read-answer.new.vram ≡ read_vram cleared_vram (snapshot_part (input_at)) = c.read-answer.ensures.vram_after in
-    let run-answer : c.run-ran.result ≡ ran (whole) = let lent : c.run-ran.result ≡ run_log c.read-answer.result.chip c.read-answer.new.vram (clear_list map_size) (clear_list line_size) (take (length (whole) - 16406) (drop 16406 (whole))) = c.run-ran.ensures.value in
-    lent ∙ ran-from (whole) (read_answer) (read-vram) (log-behind) in
-    let a = c.args in
-    let is : (ran (whole)).refusal ≡ c.run-ran.result.refusal = sym (ap (λ (x : Ran). x.refusal) (run-answer)) in
-    let refuses : is_accepted c.run-ran.result.refusal ≡ false = ne_eqb (number_of c.run-ran.result.refusal) 0 (λ e. c.if-number-ne0-2.true (c.number-2.ensures ∙ e)) in
-    (refused-writes (whole) c.run-ran.result.refusal (by-run (whole) (read-accepted) ∙ is) refuses c.refuse-then-number-ne0-2.ensures.value a.output.now a.errors.now c.refuse-then-number-ne0-2.ensures.errors_after).1.1
+    run-refused : {e : Refusal} → r.result ≡ Err e → replay_refusal input ≡ Err e
+    run-refused is = counts ∙ refusal-given (refusal_of_run input) (reached input) (gives ∙ is)
 
-pub returns-clause-value : goal.returns-clause-value
-returns-clause-value c =
-    let input_at : List ℕ = c.args.input.now in
-    let read_answer : c.read-answer.result ≡ read_snapshot power_up_state cleared_vram (snapshot_part (input_at)) = rw c.power_up_state.ensures at c.read-answer.ensures.value in
-    let read-accepted : snapshot_refusal (input_at) ≡ Accepted = sym (ap (λ (x : Answer). x.refusal) (read_answer))
-    ∙ is-accepted c.read-answer.result.refusal (eq-eqb (number_of c.read-answer.result.refusal) 0 (sym c.number.ensures ∙ c.if-number-ne0.false)) in
-    let whole : List ℕ = input_at in
-    let log-behind : take (length (whole) - 16406) (drop 16406 (whole)) ≡ log_part (whole) = take_all (length (whole) - 16406) (drop 16406 (whole)) (rw length-drop (omega arith)) in
-    let read-vram : c.read-answer.new.vram ≡ read_vram cleared_vram (snapshot_part (input_at)) = c.read-answer.ensures.vram_after in
-    let run-answer : c.run-ran.result ≡ ran (whole) = let lent : c.run-ran.result ≡ run_log c.read-answer.result.chip c.read-answer.new.vram (clear_list map_size) (clear_list line_size) (take (length (whole) - 16406) (drop 16406 (whole))) = c.run-ran.ensures.value in
-    lent ∙ ran-from (whole) (read_answer) (read-vram) (log-behind) in
-    let run-vram : c.run-ran.new.vram ≡ vram_after (whole) = c.run-ran.ensures.vram_after ∙ vram-from (whole) (read_answer) (read-vram) (log-behind) in
-    let bytes-in : Bytes (input_at) = λ i. omega (arith, (c.shared_slice_known-1.given i).fits) in
-    let a = c.args in
-    let accepted : replay_refusal (whole) ≡ Accepted =
-    by-run (whole) (read-accepted)
-    ∙ sym (ap (λ (x : Ran). x.refusal) (run-answer))
-    ∙ is-accepted c.run-ran.result.refusal (eq-eqb (number_of c.run-ran.result.refusal) 0 (sym c.number-2.ensures ∙ c.if-number-ne0-2.false)) in
-    (accepted-writes (whole) (bytes-in) accepted a.output.now a.errors.now (omega (arith, c.told-output)) (run-answer) (run-vram) c.put_report-end_of_line.ensures.value c.write.ensures.out_after c.put_report-end_of_line.ensures.out_after).0
+    run-accepted : {q : Reached} → r.result ≡ Ok q → replay_refusal input ≡ Ok tt
+    run-accepted is = counts ∙ value-given (refusal_of_run input) (reached input) (gives ∙ is)
 
-pub returns-clause-output_after : goal.returns-clause-output_after
-returns-clause-output_after c =
-    let input_at : List ℕ = c.args.input.now in
-    let read_answer : c.read-answer.result ≡ read_snapshot power_up_state cleared_vram (snapshot_part (input_at)) = rw c.power_up_state.ensures at c.read-answer.ensures.value in
-    let read-accepted : snapshot_refusal (input_at) ≡ Accepted = sym (ap (λ (x : Answer). x.refusal) (read_answer))
-    ∙ is-accepted c.read-answer.result.refusal (eq-eqb (number_of c.read-answer.result.refusal) 0 (sym c.number.ensures ∙ c.if-number-ne0.false)) in
-    let whole : List ℕ = input_at in
-    let log-behind : take (length (whole) - 16406) (drop 16406 (whole)) ≡ log_part (whole) = take_all (length (whole) - 16406) (drop 16406 (whole)) (rw length-drop (omega arith)) in
-    let read-vram : c.read-answer.new.vram ≡ read_vram cleared_vram (snapshot_part (input_at)) = c.read-answer.ensures.vram_after in
-    let run-answer : c.run-ran.result ≡ ran (whole) = let lent : c.run-ran.result ≡ run_log c.read-answer.result.chip c.read-answer.new.vram (clear_list map_size) (clear_list line_size) (take (length (whole) - 16406) (drop 16406 (whole))) = c.run-ran.ensures.value in
-    lent ∙ ran-from (whole) (read_answer) (read-vram) (log-behind) in
-    let run-vram : c.run-ran.new.vram ≡ vram_after (whole) = c.run-ran.ensures.vram_after ∙ vram-from (whole) (read_answer) (read-vram) (log-behind) in
-    let bytes-in : Bytes (input_at) = λ i. omega (arith, (c.shared_slice_known-1.given i).fits) in
+pub returns-then-input-lt16406 : goal.returns-then-input-lt16406
+returns-then-input-lt16406 c =
     let a = c.args in
-    let accepted : replay_refusal (whole) ≡ Accepted =
-    by-run (whole) (read-accepted)
-    ∙ sym (ap (λ (x : Ran). x.refusal) (run-answer))
-    ∙ is-accepted c.run-ran.result.refusal (eq-eqb (number_of c.run-ran.result.refusal) 0 (sym c.number-2.ensures ∙ c.if-number-ne0-2.false)) in
-    (accepted-writes (whole) (bytes-in) accepted a.output.now a.errors.now (omega (arith, c.told-output)) (run-answer) (run-vram) c.put_report-end_of_line.ensures.value c.write.ensures.out_after c.put_report-end_of_line.ensures.out_after).1.0
+    let input : List ℕ = a.input.now in
+    let short : length input < 16406 = omega arith in
+    let e = too_short input short in
+    let w = refused-writes input SnapshotLength (by-snapshot input (ap is_accepted e) ∙ e) c.refuse.ensures.value a.output.now a.errors.now c.refuse.ensures.errors_after in
+    record { value = w.0; output_after = w.1.0; errors_after = w.1.1 }
 
-pub returns-clause-errors_after : goal.returns-clause-errors_after
-returns-clause-errors_after c =
-    let input_at : List ℕ = c.args.input.now in
-    let read_answer : c.read-answer.result ≡ read_snapshot power_up_state cleared_vram (snapshot_part (input_at)) = rw c.power_up_state.ensures at c.read-answer.ensures.value in
-    let read-accepted : snapshot_refusal (input_at) ≡ Accepted = sym (ap (λ (x : Answer). x.refusal) (read_answer))
-    ∙ is-accepted c.read-answer.result.refusal (eq-eqb (number_of c.read-answer.result.refusal) 0 (sym c.number.ensures ∙ c.if-number-ne0.false)) in
-    let whole : List ℕ = input_at in
-    let log-behind : take (length (whole) - 16406) (drop 16406 (whole)) ≡ log_part (whole) = take_all (length (whole) - 16406) (drop 16406 (whole)) (rw length-drop (omega arith)) in
-    let read-vram : c.read-answer.new.vram ≡ read_vram cleared_vram (snapshot_part (input_at)) = c.read-answer.ensures.vram_after in
-    let run-answer : c.run-ran.result ≡ ran (whole) = let lent : c.run-ran.result ≡ run_log c.read-answer.result.chip c.read-answer.new.vram (clear_list map_size) (clear_list line_size) (take (length (whole) - 16406) (drop 16406 (whole))) = c.run-ran.ensures.value in
-    lent ∙ ran-from (whole) (read_answer) (read-vram) (log-behind) in
-    let run-vram : c.run-ran.new.vram ≡ vram_after (whole) = c.run-ran.ensures.vram_after ∙ vram-from (whole) (read_answer) (read-vram) (log-behind) in
-    let bytes-in : Bytes (input_at) = λ i. omega (arith, (c.shared_slice_known-1.given i).fits) in
+pub returns-in-Err : goal.returns-in-Err
+returns-in-Err c =
     let a = c.args in
-    let accepted : replay_refusal (whole) ≡ Accepted =
-    by-run (whole) (read-accepted)
-    ∙ sym (ap (λ (x : Ran). x.refusal) (run-answer))
-    ∙ is-accepted c.run-ran.result.refusal (eq-eqb (number_of c.run-ran.result.refusal) 0 (sym c.number-2.ensures ∙ c.if-number-ne0-2.false)) in
-    (accepted-writes (whole) (bytes-in) accepted a.output.now a.errors.now (omega (arith, c.told-output)) (run-answer) (run-vram) c.put_report-end_of_line.ensures.value c.write.ensures.out_after c.put_report-end_of_line.ensures.out_after).1.1
+    let input : List ℕ = a.input.now in
+    let is = snapshot-refused input c.power_up_state.ensures c.read-answer.ensures.value c.in-Err.is in
+    let w = refused-writes input c.in-Err.refusal is c.refuse-in-Err.ensures.value a.output.now a.errors.now c.refuse-in-Err.ensures.errors_after in
+    record { value = w.0; output_after = w.1.0; errors_after = w.1.1 }
+
+pub returns-in-Err-result : goal.returns-in-Err-result
+returns-in-Err-result c =
+    let a = c.args in
+    let input : List ℕ = a.input.now in
+    let run = ran-from input c.power_up_state.ensures c.read-answer.ensures.value c.read-answer.ensures.vram_after c.run-ran.ensures.value in
+    let is = run-refused input c.power_up_state.ensures c.read-answer.ensures.value c.in_default.is run c.in-Err-result.is in
+    let w = refused-writes input c.in-Err-result.refusal is c.refuse-in-Err-result.ensures.value a.output.now a.errors.now c.refuse-in-Err-result.ensures.errors_after in
+    record { value = w.0; output_after = w.1.0; errors_after = w.1.1 }
+
+pub returns-in-Ok : goal.returns-in-Ok
+returns-in-Ok c =
+    let a = c.args in
+    let input : List ℕ = a.input.now in
+    let run = ran-from input c.power_up_state.ensures c.read-answer.ensures.value c.read-answer.ensures.vram_after c.run-ran.ensures.value in
+    let left = vram-from input c.power_up_state.ensures c.read-answer.ensures.value c.read-answer.ensures.vram_after c.run-ran.ensures.vram_after in
+    let is = run-accepted input c.power_up_state.ensures c.read-answer.ensures.value c.in_default.is run c.in-Ok.is in
+    let w = accepted-writes input (λ i. omega (arith, (c.type_inv.input i).fits)) is a.output.now a.errors.now (omega (arith, c.told-output)) run c.in-Ok.is left c.put_report.ensures.value c.write.ensures.out_after c.put_report.ensures.out_after in
+    record { value = w.0; output_after = w.1.0; errors_after = w.1.1 }

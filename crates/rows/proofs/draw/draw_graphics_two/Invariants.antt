@@ -1,5 +1,5 @@
 -- `draw_graphics_two`: the cells before `i` are painted.
-use Prim.Native.Nat.{ℕ, ◌+◌, ◌-◌, ◌*◌, ◌≤◌}
+use Prim.Native.Nat.{ℕ, ◌+◌, ◌*◌}
 use mathlib.Core.List.{List}
 use lib.ListN.{get_or}
 use Rattle.chip.specs.declared.mode.Mode.TheVariants.{GraphicsII}
@@ -8,13 +8,10 @@ use Rattle.rows.proofs.Laws.Tiles.{Tiled}
 use Rattle.rows.proofs.draw.draw_graphics_two.Given as goal
 
 -- pixel j of line k of cell i
-abbrev pub tile : List ℕ → List ℕ → ℕ → ℕ → ℕ → ℕ → ℕ → ℕ → ℕ
+abbrev pub tile : List ℕ → List ℕ → List ℕ → ℕ → ℕ → ℕ → ℕ → ℕ → ℕ
 tile vram paints names patterns colours i k j =
-    let name : ℕ = get_or vram (names + i) 0 in
+    let name : ℕ = get_or names i 0 in
     blended paints (get_or vram (patterns + 8 * name + k) 0) (get_or vram (colours + 8 * name + k) 0) j
 
 abbrev pub invariant-loop-i : goal.invariant-loop-i
-invariant-loop-i l = (l.i ≤ 32) × Tiled GraphicsII (tile l.vram l.paints l.names l.patterns l.colours) l.part l.initial.part l.i
-
-abbrev pub decreases-loop-i : goal.decreases-loop-i
-decreases-loop-i l = 32 - l.i
+invariant-loop-i l = Tiled GraphicsII (tile l.brush.screen.vram.now l.brush.paints l.name-items l.patterns l.colours) l.part l.initial.part l.i

@@ -1,6 +1,5 @@
 -- `draw_text`: the cells before `i` are painted, and the margin on their left.
-use Prim.Native.Nat.{ℕ, ◌+◌, ◌-◌, ◌*◌, ◌≤◌}
-use mathlib.Core.Path.{◌≡◌}
+use Prim.Native.Nat.{ℕ, ◌+◌, ◌*◌}
 use mathlib.Core.List.{List}
 use lib.ListN.{get_or}
 use Rattle.chip.specs.declared.mode.Mode.TheVariants.{Text}
@@ -9,11 +8,8 @@ use Rattle.rows.proofs.Laws.Tiles.{Tiled}
 use Rattle.rows.proofs.draw.draw_text.Given as goal
 
 -- pixel j of line k of cell i
-abbrev pub tile : List ℕ → List ℕ → ℕ → ℕ → ℕ → ℕ → ℕ → ℕ
-tile vram words names patterns i k j = byte_of j (get_or words (get_or vram (patterns + 8 * get_or vram (names + i) 0 + k) 0) 0)
+abbrev pub tile : List ℕ → List ℕ → List ℕ → ℕ → ℕ → ℕ → ℕ → ℕ
+tile vram words names patterns i k j = byte_of j (get_or words (get_or vram (patterns + 8 * get_or names i 0 + k) 0) 0)
 
 abbrev pub invariant-loop-i : goal.invariant-loop-i
-invariant-loop-i l = (l.i ≤ 40) × (l.at ≡ 8 + l.i * 6) × Tiled Text (tile l.vram l.words l.names l.patterns) l.part l.initial.part l.i
-
-abbrev pub decreases-loop-i : goal.decreases-loop-i
-decreases-loop-i l = 40 - l.i
+invariant-loop-i l = Tiled Text (tile l.brush.screen.vram.now l.words l.name-items l.patterns) l.part l.initial.part l.i

@@ -10,16 +10,16 @@ use Rattle.rows.proofs.line.draw_text_line.Goals as goal
 
 pub draw_line_cells-requires : goal.draw_line_cells-requires
 draw_line_cells-requires c =
-    let left = line-margin Text c.args.r c.args.vram.now c.args.l {at = 0} c.requires.4
-    (λ j h. left-of-cells Text (value (plane_of Text c.args.r c.args.l) c.args.vram.now) (0 + j) (omega arith))
-    (line-none c.requires.5)
+    let left = line-margin Text c.args.brush.now.screen.registers c.args.brush.now.screen.vram.now c.args.l {at = 0} c.args.brush.now.paints_are
+    (λ j h. left-of-cells Text (value (plane_of Text c.args.brush.now.screen.registers c.args.l) c.args.brush.now.screen.vram.now) (0 + j) (omega arith))
+    (line-none c.requires.1)
     c.put_word.ensures in
-    (c.requires.0, c.requires.1, c.requires.2, c.requires.3, c.requires.4, left)
+    (c.requires.0, left)
 
 pub returns : goal.returns
 returns c =
     line-all
-    (line-margin Text c.args.r c.args.vram.now c.args.l {at = 248} c.requires.4
-    (λ j h. right-of-cells Text (value (plane_of Text c.args.r c.args.l) c.args.vram.now) (248 + j) (omega arith))
+    (line-margin Text c.args.brush.now.screen.registers c.args.brush.now.screen.vram.now c.args.l {at = 248} c.args.brush.now.paints_are
+    (λ j h. right-of-cells Text (value (plane_of Text c.args.brush.now.screen.registers c.args.l) c.args.brush.now.screen.vram.now) (248 + j) (omega arith))
     c.draw_line_cells.ensures
     c.put_word-2.ensures)

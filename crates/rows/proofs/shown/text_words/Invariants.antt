@@ -1,5 +1,5 @@
 -- `text_words`: the bytes before `b` have their words.
-use Prim.Native.Nat.{◌-◌, ◌≤◌}
+use Prim.Native.Nat.{◌-◌}
 use mathlib.Core.Bool.{cond}
 use Rattle.chip.specs.Bits.{bit}
 use Rattle.words.specs.Words.{byte_of}
@@ -7,7 +7,4 @@ use Rattle.rows.specs.Shown.{Filled}
 use Rattle.rows.proofs.shown.text_words.Given as goal
 
 abbrev pub invariant-loop-b : goal.invariant-loop-b
-invariant-loop-b l = (l.b ≤ 256) × Filled l.words (λ pattern j. cond (bit (7 - j) pattern) (byte_of j l.one) (byte_of j l.zero)) l.b
-
-abbrev pub decreases-loop-b : goal.decreases-loop-b
-decreases-loop-b l = 256 - l.b
+invariant-loop-b l = Filled l.words (λ pattern j. cond (bit (7 - j) pattern) (byte_of j l.one) (byte_of j l.zero)) l.b

@@ -1,8 +1,7 @@
 -- `draw_colours` meets its contract.
-use native.Mathlib.Omega.{arith}
+use Rattle.std.proofs.Common.{arith}
 use Rattle.chip.proofs.Laws.State.{masked-in}
-use mathlib.Core.Path.{sym, ◌∙◌}
 use Rattle.scanline.proofs.colours.draw_colours.Goals as goal
 
-pub draw_row-note-requires : goal.draw_row-note-requires
-draw_row-note-requires c = (masked-in _ ((sym c.is_well_formed.ensures ∙ c.if-not-is_well_formed.false)), c.if-vram-ne16384.false, omega (arith, c.if-number-gt191.false), c.if-line-ne256.false)
+pub new-screen-requires : goal.new-screen-requires
+new-screen-requires c = grind (arith, masked-in)

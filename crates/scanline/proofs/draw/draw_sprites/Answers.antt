@@ -1,8 +1,7 @@
 -- `draw_sprites` meets its contract.
+use Rattle.std.proofs.Common.{arith}
 use Rattle.sprites.proofs.Laws.Ended.{ended-small}
 use Rattle.scanline.proofs.draw.draw_sprites.Goals as goal
 
 pub note_of-requires : goal.note_of-requires
-note_of-requires c =
-    let a = c.args in
-    rw c.scan_of-scan.ensures.ended (ended-small a.r a.l a.vram.now)
+note_of-requires c = grind (arith, ended-small)

@@ -1,10 +1,6 @@
--- `add_run`: the sets before `i` have the bit, the others are as they were.
-use Rattle.std.proofs.Common.{◌-◌, ◌≤◌, length}
+-- `add_run`: the sets that were seen have the bit, the others are as they were.
 use Rattle.sets.proofs.Laws.Run.{Run}
 use Rattle.sets.proofs.set.add_run.Given as goal
 
-abbrev pub invariant-loop-i : goal.invariant-loop-i
-invariant-loop-i l = (l.i ≤ length l.initial.part) × Run l.initial.part l.part l.one l.i
-
-abbrev pub decreases-loop-i : goal.decreases-loop-i
-decreases-loop-i l = length l.initial.part - l.i
+abbrev pub invariant-loop-x : goal.invariant-loop-x
+invariant-loop-x l = Run l.initial.part l.part l.one l.x-index

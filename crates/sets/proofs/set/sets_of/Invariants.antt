@@ -1,10 +1,6 @@
--- `sets_of` meets its contract.
-use Rattle.std.proofs.Common.{◌-◌}
+-- `sets_of`: the first n sprites are in the sets.
 use Rattle.sets.proofs.Laws.Sets.{Begun}
 use Rattle.sets.proofs.set.sets_of.Given as goal
 
 abbrev pub invariant-loop-n : goal.invariant-loop-n
-invariant-loop-n l = Begun l.r l.vram l.sets l.n
-
-abbrev pub decreases-loop-n : goal.decreases-loop-n
-decreases-loop-n l = 32 - l.n
+invariant-loop-n l = Begun l.screen.registers l.screen.vram.now l.sets l.n

@@ -8,5 +8,5 @@ decode-next-requires c =
     let fourteen : 14 ≤ length c.state_bytes.result.now = rw c.state_bytes.ensures (omega (arith, length-state c.args.snapshot.now c.if-snapshot-ne16406.false)) in
     fourteen
 
-pub copy-requires : goal.copy-requires
-copy-requires c = rw c.vram_bytes.ensures (c.if-vram-ne16384.false ∙ sym (length-vram c.args.snapshot.now c.if-snapshot-ne16406.false))
+pub copy_from_slice-requires : goal.copy_from_slice-requires
+copy_from_slice-requires c = rw c.vram_bytes.ensures (c.if-vram-ne16384.false ∙ sym (length-vram c.args.snapshot.now c.if-snapshot-ne16406.false))

@@ -1,11 +1,10 @@
--- `sprites_at` meets its contract.
-use Rattle.std.proofs.Common.{◌≡◌, ◌≤◌, take, drop}
+-- `sprites_at`: the sprites to come over the pixel so far are all of them over what stands behind.
+use Rattle.std.proofs.Common.{◌≡◌}
 use Rattle.planes.specs.Origin.{frontmost}
 use Rattle.sprites.specs.Pixels.{visible, numbered_colours}
 use Rattle.sprites.proofs.column.sprites_at.Given as goal
 
-abbrev pub invariant-loop-k : goal.invariant-loop-k
-invariant-loop-k l = (l.k ≤ l.initial.k) × (l.pixel ≡ frontmost (numbered_colours l.r (drop l.k (take l.initial.k l.sprites)) (visible l.x)) l.initial.pixel)
-
-abbrev pub decreases-loop-k : goal.decreases-loop-k
-decreases-loop-k l = l.k
+abbrev pub invariant-loop-s : goal.invariant-loop-s
+invariant-loop-s l =
+    frontmost (numbered_colours l.r l.s-iterator.iter.rest.now (visible l.x)) l.pixel
+    ≡ frontmost (numbered_colours l.r l.initial.s-iterator.iter.rest.now (visible l.x)) l.initial.pixel

@@ -1,20 +1,27 @@
 -- `draw_numbers` meets its contract.
-use Rattle.std.proofs.Common.{◌-◌, get_or, arith}
-use Rattle.sprites.specs.Scanned.{no_sprite}
-use Rattle.sprites.proofs.Laws.Draw.{numbered-none, numbered-one, one_lower, none-higher}
+use Rattle.std.proofs.Common.{Iter, List, ◌≡◌, ℕ, [], get_or, take, sym, ap, ◌∙◌, arith}
+use Rattle.std.proofs.lemmas.List.{nil_from_length}
+use Rattle.chip.proofs.Laws.Lists.{tabulated, get_d_tabulate}
+use Rattle.sprites.specs.Pixels.{visible, numbered_colours}
+use Rattle.sprites.specs.Codes.{first_number}
+use Rattle.sprites.specs.declared.sprite.Sprite.{Sprite}
+use Rattle.std.specs.declared.iter.Rev.{Rev}
+use Rattle.sprites.proofs.Laws.Draw.{last-number}
 use Rattle.sprites.proofs.draw.draw_numbers.Goals as goal
 
-pub loop-k-init : goal.loop-k-init
-loop-k-init c =
-    let held = c.requires.1 in
-    (omega arith, rw (none-higher c.args.scan.sprites c.args.scan.drawn (omega (arith, held.room, held.few))) (numbered-none c.requires.0))
+pub loop-s-preserved : goal.loop-s-preserved
+loop-s-preserved c = λ x h.
+    let r = c.args.r in
+    let s = c.in-Some.s.now in
+    let l = c.next.new.self.iter.rest.now in
+    let old = get_or c.loop-s.origins x 0 in
+    let painted = ap (λ (t : List ℕ). get_or t x 0) c.paint_sprite.ensures ∙ get_d_tabulate 256 _ x h in
+    ap (first_number (numbered_colours r l (visible x))) painted
+    ∙ sym (last-number r l s (visible x) old)
+    ∙ rw c.in-Some.ensures.steps at (c.loop-s.invariant x h)
 
-pub loop-k-preserved : goal.loop-k-preserved
-loop-k-preserved c =
-    let h = c.loop-k in
-    let sprites = c.args.scan.sprites in
-    let n = c.args.scan.drawn in (
-      omega arith,
-      rw (one_lower sprites n h.k no_sprite c.loop-k-test.true h.invariant.0 (omega (arith, c.requires.1.room, c.requires.1.few)))
-          (numbered-one (get_or sprites (h.k - 1) no_sprite) h.invariant.1 c.paint_sprite.ensures),
-    )
+pub returns : goal.returns
+returns c =
+    let last : c.loop-s.s-iterator.iter.rest.now ≡ [] = nil_from_length _ (c.in-None.ensures.steps.0) in
+    let whole : c.into_iter-s-iterator.result.iter.rest.now ≡ take c.args.scan.drawn c.args.scan.sprites = ap (λ (t : Rev (Iter Sprite)). t.iter.rest.now) c.into_iter-s-iterator.ensures.into_iter_gives ∙ ap (λ (t : Iter Sprite). t.rest.now) c.rev-s-items.ensures.source ∙ c.iter.ensures.rest in
+    tabulated (omega (arith, c.requires.0)) (λ x h. rw (whole, last) at (c.loop-s.invariant x h))

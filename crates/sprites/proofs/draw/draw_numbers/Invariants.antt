@@ -1,10 +1,12 @@
--- `draw_numbers` meets its contract.
-use Rattle.std.proofs.Common.{◌≤◌, take, drop}
-use Rattle.sprites.proofs.Laws.Draw.{Numbered}
+-- `draw_numbers`: the numbers to come over the line so far are all of them over the line as it was.
+use Rattle.std.proofs.Common.{◌≡◌, ℕ, ◌<◌, get_or}
+use Rattle.sprites.specs.Pixels.{visible, numbered_colours}
+use Rattle.sprites.specs.Codes.{first_number}
 use Rattle.sprites.proofs.draw.draw_numbers.Given as goal
 
-abbrev pub invariant-loop-k : goal.invariant-loop-k
-invariant-loop-k l = (l.k ≤ l.initial.k) × Numbered l.r (drop l.k (take l.initial.k l.sprites)) l.initial.origins l.origins
-
-abbrev pub decreases-loop-k : goal.decreases-loop-k
-decreases-loop-k l = l.k
+abbrev pub invariant-loop-s : goal.invariant-loop-s
+invariant-loop-s l =
+    (x : ℕ)
+    → x < 256
+    → first_number (numbered_colours l.r l.s-iterator.iter.rest.now (visible x)) (get_or l.origins x 0)
+    ≡ first_number (numbered_colours l.r l.initial.s-iterator.iter.rest.now (visible x)) (get_or l.initial.origins x 0)

@@ -1,24 +1,34 @@
 -- `meets_one` meets its contract.
-use Rattle.std.proofs.Common.{◌-◌, ◌||◌, get_or, take, drop, ◌∙◌, ap₂, arith}
-use Rattle.sprites.specs.Scanned.{no_sprite}
-use Rattle.sprites.proofs.Laws.Draw.{one_lower, none-higher}
-use Rattle.sprites.proofs.Laws.Meet.{meets-none, meets-more}
+use Rattle.std.proofs.Common.{◌≡◌, ℕ, ◌+◌, ◌-◌, ◌&&◌, take, drop, sym, ap, ◌∙◌, arith, rules}
+use Rattle.std.proofs.lemmas.List.{drop-take}
+use Rattle.std.proofs.lemmas.Iterator.{YieldsList-from_slice}
+use Rattle.std.proofs.lemmas.Iterator.Adapters.{serves_from_places}
+use Rattle.std.proofs.lemmas.Iterator.Search.{any_from_yields_List}
+use borrow.Author.Tests.{tests}
+use Rattle.chip.specs.Ranges.{any_below}
+use Rattle.sprites.specs.Pixels.{hits, reach}
+use Rattle.sprites.specs.declared.sprite.Sprite.{Sprite}
+use Rattle.sprites.proofs.Laws.Draw.{held-from}
+use Rattle.sprites.proofs.Laws.Meet.{meets-any}
 use Rattle.sprites.proofs.meet.meets_one.Goals as goal
+use Rattle.sprites.proofs.meet.meets_one.Goals.{After-iter}
 
-pub loop-j-init : goal.loop-j-init
-loop-j-init c =
-    let held = c.requires.1 in
+looked-at : (c : After-iter) → c.iter.result.rest.now ≡ drop c.args.k (take c.args.scan.drawn c.args.scan.sprites)
+looked-at c =
     let a = c.args in
-    (c.requires.2, omega arith, rw (none-higher a.scan.sprites a.scan.drawn (omega (arith, held.room, held.few))) (meets-none a.r a.s))
+    let all : a.k + (a.scan.drawn - a.k) ≡ a.scan.drawn = omega (arith, c.requires.2) in
+    c.iter.ensures.rest ∙ sym (drop-take a.k (a.scan.drawn - a.k) a.scan.sprites) ∙ ap (λ (n : ℕ). drop a.k (take n a.scan.sprites)) all
 
-pub loop-j-preserved : goal.loop-j-preserved
-loop-j-preserved c =
-    let h = c.loop-j in
-    let sprites = c.args.scan.sprites in
-    let n = c.args.scan.drawn in
-    let t = get_or sprites (h.j - 1) no_sprite in (
-      omega (arith, c.loop-j-test.true),
-      omega arith,
-      rw (one_lower sprites n h.j no_sprite (omega (arith, c.loop-j-test.true)) h.invariant.1 (omega (arith, c.requires.1.room, c.requires.1.few)))
-          (ap₂ ◌||◌ c.two_meet-met.ensures h.invariant.2 ∙ meets-more c.args.r c.args.s t (drop h.j (take n sprites))),
-    )
+pub any-requires-clause-callable : goal.any-requires-clause-callable
+any-requires-clause-callable c =
+    let a = c.args in
+    let whole = looked-at (goal.at.any-requires-clause-callable c).After-iter in
+    serves_from_places (YieldsList-from_slice (drop a.k (take a.scan.drawn a.scan.sprites)) whole) (λ x q k. search rules)
+    (λ x j h e _ _ _ _ _ _ _ _. (c.requires.0, rw e (held-from c.requires.1 a.k j x.now h)))
+
+pub returns : goal.returns
+returns c =
+    let a = c.args in
+    let whole = looked-at (goal.at.returns c).After-iter in
+    any_from_yields_List (λ (t : Sprite). any_below reach (λ c. hits a.r a.s c && hits a.r t c)) _ _ c.any.result c.any.ensures.ran (YieldsList-from_slice (drop a.k (take a.scan.drawn a.scan.sprites)) whole) (λ x b q k. search (rules, tests))
+    ∙ meets-any a.r a.s (drop a.k (take a.scan.drawn a.scan.sprites))

@@ -5,6 +5,6 @@ use Rattle.sprites.proofs.meet.two_meet.Goals as goal
 
 pub returns : goal.returns
 returns c =
-    let first = rw c.further_right-c.ensures at c.meet_from.ensures in
-    let next = rw c.further_right-c.ensures at c.meet_from-2.ensures in
+    let first = rw c.max-c.ensures at c.meet_from.ensures in
+    let next = rw c.max-c.ensures at c.meet_from-2.ensures in
     ap₂ ◌||◌ first next ∙ two-rows c.args.r c.args.a c.args.b c.requires.0.near

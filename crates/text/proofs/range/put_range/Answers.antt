@@ -8,28 +8,8 @@ use lib.Dec.{eqb}
 use lib.ListN.{length}
 use Rattle.text.specs.Runs.{runs}
 use Rattle.text.specs.Lines.{bounds_text, runs_text, range_text}
-use Rattle.text.proofs.Laws.Numbers.{length-bounds}
-use Rattle.text.proofs.Laws.Runs.{length_runs}
 use Rattle.text.proofs.Laws.Put.{Put, after}
 use Rattle.text.proofs.range.put_range.Goals as goal
-
-pub put_runs-runs-requires : goal.put_runs-runs-requires
-put_runs-runs-requires c = (c.requires.0, omega (arith, c.put_bounds-bounds.ensures.value, c.put_bounds-bounds.auto.out, length-bounds c.args.first c.args.last, c.requires.1))
-
-pub put-requires : goal.put-requires
-put-requires c = omega (arith, c.put_runs-runs.ensures.value, c.put_runs-runs.auto.out, length_runs c.args.range.now, c.put_bounds-bounds.ensures.value, c.put_bounds-bounds.auto.out, length-bounds c.args.first c.args.last, c.requires.0, c.requires.1)
-
-pub returns-clause-value : goal.returns-clause-value
-unfolding range_text
-returns-clause-value c =
-    let out = c.args.out.now in
-    let bounds = bounds_text c.args.first c.args.last in
-    let line = runs_text (runs eqb c.args.range.now) in
-    let h : 0 ≤ length out = omega arith in
-    let q₁ : Put out 0 bounds c.put_bounds-bounds.result c.put_bounds-bounds.new.out = (c.put_bounds-bounds.ensures.value ∙ sym (zero-add _), c.put_bounds-bounds.ensures.out_after) in
-    let q₂ = after out 0 bounds line h q₁ (c.put_runs-runs.ensures.value, c.put_runs-runs.ensures.out_after) in
-    let q₃ = rw (append_assoc bounds line (10 ∷ [])) at (after out 0 (bounds ++ line) (10 ∷ []) h q₂ (c.put.ensures.value, c.put.ensures.to_after)) in
-    q₃.0 ∙ zero-add _
 
 pub returns-clause-out_after : goal.returns-clause-out_after
 unfolding range_text

@@ -19,12 +19,11 @@ loop-j-preserved c =
     let new = set at.masks (n + at.j) w in
     let other : (p : ℕ) → p < n + at.j → get_or new p 0 ≡ get_or at.masks p 0 = λ p h. get_or-set_other at.masks (n + at.j) p w 0 (omega arith) in
     let same : get_or new (n + at.j) 0 ≡ w = get_or-set_same at.masks (n + at.j) w 0 (omega arith) in
-    let more : IsMask (2 ^ b + at.j) w = mask-added b at.j (get_or at.masks at.j 0) (omega arith) (omega arith) (at.invariant.4 at.j (omega arith)) in (
+    let more : IsMask (2 ^ b + at.j) w = mask-added b at.j (get_or at.masks at.j 0) (omega arith) (omega arith) (at.invariant.3 at.j (omega arith)) in (
       at.invariant.0,
       at.invariant.1,
-      omega arith,
-      simp length-set at.invariant.3,
+      simp length-set at.invariant.2,
       λ p h. below_more (λ p. IsMask p (get_or new p 0)) (n + at.j)
-          (λ p h. rw (other p h) (at.invariant.4 p h))
+          (λ p h. rw (other p h) (at.invariant.3 p h))
           (rw (same, at.invariant.0) more) p (omega arith),
     )

@@ -1,11 +1,12 @@
 -- `put_word` meets its contract.
-use native.Mathlib.Nat.{add-zero, div-one}
-use Rattle.words.specs.Words.{byte_of}
+use native.Mathlib.Nat.{add-sub_cancel_left}
+use mathlib.Core.Path.{◌≡◌, ◌∙◌}
+use Rattle.std.specs.Int.{w64, to_le_bytes}
 use Rattle.words.proofs.Laws.Stored.{stored-painted}
 use Rattle.words.proofs.word.put_word.Goals as goal
 
 pub returns : goal.returns
-unfolding byte_of
 returns c =
     let a = c.args in
-    rw (add-zero, div-one) at (stored-painted 8 a.line.now a.at a.word c.requires)
+    let copied : c.copy_from_slice.new.self ≡ to_le_bytes w64 a.word = c.copy_from_slice.ensures.after ∙ c.to_le_bytes-bytes.ensures in
+    rw (copied, add-sub_cancel_left) (stored-painted a.line.now a.at a.word c.requires)

@@ -1,0 +1,6 @@
+-- `paint_bytes` meets its contract.
+use Rattle.std.proofs.Common.{rules}
+use Rattle.rows.proofs.stripe.paint_bytes.Goals as goal
+
+pub returns : goal.returns
+returns c = c.paint_lines.ensures _ (λ k w j hk p hj. search rules)
