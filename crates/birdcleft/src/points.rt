@@ -5,7 +5,7 @@ ghost use Rattle.birdcleft.specs.Points as points;
 use crate::{result_of, vram_entry};
 
 // The numbers of both calls at once: with one caller the direct call is put in here by the compiler, and the state need not go
-// through memory. A pair of numbers comes back in a register, and a `Result` would not (1 ns of 17).
+// through memory. A pair of numbers comes back in a register, and a `Result` would not.
 fn point_numbers(block: &[u8], vram: &[u8], line: u32, column: u32) -> (u32, u32)
     ensures colour_value { result.0 ≡ points.point block.now vram.now line column }
     ensures origin_value { result.1 ≡ points.origin block.now vram.now line column }

@@ -1,5 +1,5 @@
 // Numbers put into a slice from a place on, as characters. Each answers the place behind them. The digits are made here, since
-// `write!` states which bytes it writes only for a `String`, which needs a heap.
+// `write!` promises its bytes only where it succeeds, and into a lent slice nothing says that it does.
 ghost use Rattle.std.specs.Prelude.{◌≡◌, ◌+◌, ◌≤◌, ◌<◌, length};
 ghost use Rattle.chip.specs.Lists.{put_at};
 ghost use Rattle.text.specs.Numbers.{decimal, three_digits, long_decimal, hex_digit, two_hex};
