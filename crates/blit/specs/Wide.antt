@@ -4,7 +4,7 @@ use Rattle.std.specs.Prelude.{ℕ, ◌+◌, ◌-◌, ◌<◌, ◌≡◌, Bool, �
 use Rattle.chip.specs.Bits.{bit}
 use Rattle.chip.specs.Ranges.{any_below}
 use Rattle.sprites.specs.Pixels.{hits, reach}
-use Rattle.sprites.specs.Scanned.{no_sprite}
+use Rattle.sprites.specs.Held.{no_sprite}
 use Rattle.sprites.specs.declared.scan.Scan.{Scan}
 use Rattle.sprites.specs.declared.sprite.Sprite.{Sprite}
 use Rattle.blit.specs.declared.wide_sprite.WideSprite.{WideSprite}
@@ -17,10 +17,10 @@ abbrev pub WideRow : List ℕ → Sprite → ℕ → Type 0
 WideRow r s row = (k : ℕ) → k < 32 → bit (31 - k) row ≡ hits r s (s.first + k)
 
 -- A scan's sprites, each with its wide row.
-pub record WideRows (r : List ℕ) (scan : Scan) (wides : List WideSprite) : Type 0 where
+pub record WideRows (scan : Scan) (wides : List WideSprite) : Type 0 where
   pub long : length wides ≡ 4
   pub own : (k : ℕ) → k < 4 → (get_or wides k no_wide).sprite ≡ get_or scan.sprites k no_sprite
-  pub each : (k : ℕ) → k < 4 → WideRow r (get_or scan.sprites k no_sprite) (get_or wides k no_wide).row
+  pub each : (k : ℕ) → k < 4 → WideRow scan.registers (get_or scan.sprites k no_sprite) (get_or wides k no_wide).row
 
 -- Whether a wide row has a set bit at column c, by the row's first column.
 unfoldable pub shown_at : ℕ → ℕ → ℕ → Bool

@@ -1,7 +1,7 @@
 // A sprite's row of bits as wide as it is shown.
 ghost use Rattle.std.specs.Prelude.{◌≡◌, ℕ, ◌/◌, ◌<◌};
 ghost use Rattle.chip.specs.Bits as bits;
-ghost use Rattle.sprites.specs.Scanned.{AsRead};
+ghost use Rattle.sprites.specs.Held.{AsRead};
 ghost use Rattle.blit.specs.Wide.{WideRow};
 
 use crate::wide_sprite::WideSprite;
@@ -19,6 +19,7 @@ fn doubled(byte: u8) -> u32
     ones * 3
 }
 
+// A sprite does not hold the registers that it was read under, hence `AsRead`: with them in each, a scan would hold them four times.
 fn wide_row(r: [u8; 8], s: Sprite) -> u32
     requires { AsRead r s }
     ensures { WideRow r s result }

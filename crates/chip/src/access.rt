@@ -1,5 +1,5 @@
 // Reading VRAM at the address, which steps.
-ghost use Rattle.std.specs.Prelude.{◌≡◌, ◌≤◌, length};
+ghost use Rattle.std.specs.Prelude.{◌≡◌, ◌≤◌};
 ghost use Rattle.chip.specs.Ports.{next_address, prefetched};
 
 use crate::state::Chip;
@@ -14,8 +14,9 @@ pub fn step(a: u16) -> u16
 
 impl Chip {
     // The buffer is filled from VRAM at the address, which steps.
-    pub fn prefetch(mut self, vram: &[u8]) -> Chip
-        requires { (self.address ≤ 16383) × (length vram.now ≡ 16384) }
+    // Of a well-formed state each step here needs this bound alone; a type for such states would be made anew after each: no plainer.
+    pub fn prefetch(mut self, vram: &[u8; 16384]) -> Chip
+        requires { self.address ≤ 16383 }
         ensures { result ≡ prefetched vram.now self }
     {
         let at = self.address;

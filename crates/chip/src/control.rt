@@ -1,5 +1,5 @@
 // The control port: pairs of bytes that set the address or a register.
-ghost use Rattle.std.specs.Prelude.{◌≡◌, ◌<◌, ◌≤◌, length};
+ghost use Rattle.std.specs.Prelude.{◌≡◌, ◌<◌, ◌≤◌};
 ghost use Rattle.chip.specs.Ports.{register_written, pair_done, control};
 ghost use Rattle.chip.specs.Calls as calls;
 
@@ -20,8 +20,8 @@ impl Chip {
     }
 
     // What the second byte of a pair does, once the address is set.
-    fn complete(self, vram: &[u8], a: u8, b: u8) -> Chip
-        requires { (self.address ≤ 16383) × (length vram.now ≡ 16384) }
+    fn complete(self, vram: &[u8; 16384], a: u8, b: u8) -> Chip
+        requires { self.address ≤ 16383 }
         ensures { result ≡ pair_done a b vram.now self }
     {
         if 128 <= b {
@@ -33,8 +33,8 @@ impl Chip {
         self
     }
 
-    fn take_control_byte(self, vram: &[u8], b: u8) -> Chip
-        requires { (self.address ≤ 16383) × (length vram.now ≡ 16384) }
+    fn take_control_byte(self, vram: &[u8; 16384], b: u8) -> Chip
+        requires { self.address ≤ 16383 }
         ensures { result ≡ control b vram.now self }
     {
         let Some(a) = self.waiting else {
@@ -48,9 +48,9 @@ impl Chip {
     pub fn control_write(self, vram: &[u8], byte: u8) -> Answer
         ensures { result ≡ calls.control_write self vram.now byte }
     {
-        if vram.len() != 16384 {
+        let Some(vram) = vram.as_array::<16384>() else {
             return self.refused(Refusal::VramLength);
-        }
+        };
         if !self.is_well_formed() {
             return self.refused(Refusal::IllFormed);
         }

@@ -1,5 +1,5 @@
 // The data port.
-ghost use Rattle.std.specs.Prelude.{◌≡◌, ◌≤◌, length};
+ghost use Rattle.std.specs.Prelude.{◌≡◌, ◌≤◌};
 ghost use Rattle.chip.specs.Ports.{data_written, stored};
 ghost use Rattle.chip.specs.Map.{set_dirty};
 ghost use Rattle.chip.specs.Calls as calls;
@@ -10,8 +10,8 @@ use crate::refusal::{Answer, Refusal};
 use crate::state::Chip;
 
 impl Chip {
-    fn take_data_byte(self, vram: &mut [u8], map: &mut [u8], b: u8) -> Chip
-        requires { (self.address ≤ 16383) × (length vram.old ≡ 16384) × (length map.old ≡ 2048) }
+    fn take_data_byte(self, vram: &mut [u8; 16384], map: &mut [u8; 2048], b: u8) -> Chip
+        requires { self.address ≤ 16383 }
         ensures value { result ≡ data_written b self }
         ensures vram_after { vram.new ≡ stored b self vram.old }
         ensures map_after { map.new ≡ set_dirty map.old self.address }
@@ -30,12 +30,12 @@ impl Chip {
         ensures vram_after { vram.new ≡ calls.data_write_vram self vram.old map.old byte }
         ensures map_after { map.new ≡ calls.data_write_map self vram.old map.old }
     {
-        if vram.len() != 16384 {
+        let Some(vram) = vram.as_mut_array::<16384>() else {
             return self.refused(Refusal::VramLength);
-        }
-        if map.len() != 2048 {
+        };
+        let Some(map) = map.as_mut_array::<2048>() else {
             return self.refused(Refusal::SliceLength);
-        }
+        };
         if !self.is_well_formed() {
             return self.refused(Refusal::IllFormed);
         }
@@ -46,9 +46,9 @@ impl Chip {
     pub fn data_read(self, vram: &[u8]) -> Answer
         ensures { result ≡ calls.data_read self vram.now }
     {
-        if vram.len() != 16384 {
+        let Some(vram) = vram.as_array::<16384>() else {
             return self.refused(Refusal::VramLength);
-        }
+        };
         if !self.is_well_formed() {
             return self.refused(Refusal::IllFormed);
         }

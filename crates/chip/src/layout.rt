@@ -6,6 +6,7 @@ ghost use Rattle.chip.specs.Layout as layout;
 use crate::state::Chip;
 use crate::two_bytes::low_first_at;
 
+// The bytes may be the first 14 of a longer block, as in `load`: an array of 14 would ask more.
 fn registers_of(b: &[u8]) -> [u8; 8]
     requires { 14 ≤ length b.now }
     ensures { result ≡ take 8 b.now }
@@ -75,7 +76,7 @@ pub fn load(b: &[u8]) -> Chip
 pub type Layout = [u8; 14];
 
 impl Chip {
-    // The 14 bytes.
+    // The 14 bytes. The registers are spelled out: so all 14 make one array, where bytes put in slice by slice would be copied over zeros.
     pub fn encode(self) -> Layout
         ensures { result ≡ layout.encoded self }
     {

@@ -4,6 +4,7 @@ pub mod Bits
 pub mod Parts
 pub mod Plane
 pub mod Tables
+pub mod Cells
 pub mod Joined
 pub mod Marks
 pub mod Scan

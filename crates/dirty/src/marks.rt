@@ -1,39 +1,39 @@
 // What of the sprites is dirty, told for all of them at once.
-ghost use Rattle.std.specs.Prelude.{◌≡◌, true, false, ℕ, ◌+◌, ◌*◌, ◌≤◌, ◌<◌, length};
+ghost use Rattle.std.specs.Prelude.{◌≡◌, true, false, ℕ, ◌+◌, ◌*◌, ◌≤◌, ◌<◌};
 ghost use Rattle.chip.specs.Bits.{bit};
-ghost use Rattle.chip.specs.State.{masked};
 ghost use Rattle.dirty.specs.Marks.{attributes_at, patterns_at, CleanPart, CleanYs, Marks};
 
 use crate::clear::bits_of;
 use crate::part::part_dirty;
+use chip::Screen;
 
-// The first of the 16 bytes of the map that stand for the attribute table.
-pub fn attributes_from(r: [u8; 8]) -> usize
-    requires { masked r ≡ true }
-    ensures { (result * 8 ≡ attributes_at r) × (result + 16 ≤ 2048) }
+// The first of the 16 bytes of the map that stand for the attribute table. (One function with
+// `patterns_from` would take the register and the factor as parameters: no plainer.)
+#[tactic(auto, using(crate::proofs::Laws::Tables::registers))]
+pub fn attributes_from(screen: Screen) -> usize
+    ensures { (result * 8 ≡ attributes_at screen.entry.registers) × (result + 16 ≤ 2048) }
 {
-    r[5] as usize * 16
+    screen.registers[5] as usize * 16
 }
 
 // The first of the 256 bytes of the map that stand for the sprite patterns.
-fn patterns_from(r: [u8; 8]) -> usize
-    requires { masked r ≡ true }
-    ensures { (result * 8 ≡ patterns_at r) × (result + 256 ≤ 2048) }
+#[tactic(auto, using(crate::proofs::Laws::Tables::registers))]
+fn patterns_from(screen: Screen) -> usize
+    ensures { (result * 8 ≡ patterns_at screen.entry.registers) × (result + 256 ≤ 2048) }
 {
-    r[6] as usize * 256
+    screen.registers[6] as usize * 256
 }
 
 // Whether no byte of the sprite patterns is dirty.
-pub fn patterns_clear(r: [u8; 8], map: &[u8]) -> bool
-    requires { (masked r ≡ true) × (length map.now ≡ 2048) }
-    ensures { result ≡ true → CleanPart map.now (patterns_at r) 2048 }
+pub fn patterns_clear(screen: Screen, map: &[u8; 2048]) -> bool
+    ensures { result ≡ true → CleanPart map.now (patterns_at screen.entry.registers) 2048 }
 {
-    !part_dirty(map, patterns_from(r), 256)
+    !part_dirty(map, patterns_from(screen), 256)
 }
 
 // Whether no sprite's Y is dirty. A byte of the map stands for two sprites.
-pub fn ys_clear(map: &[u8], from: usize) -> bool
-    requires { from + 16 ≤ length map.now }
+pub fn ys_clear(map: &[u8; 2048], from: usize) -> bool
+    requires { from + 16 ≤ 2048 }
     ensures { result ≡ true → CleanYs map.now (from * 8) }
 {
     bits_of(&map[from..from + 16]) & 0x11 == 0
@@ -49,8 +49,8 @@ fn pair_marks(byte: u8) -> u32
 }
 
 // The marks of all sprites.
-pub fn marks_of(map: &[u8], from: usize) -> u32
-    requires { from + 16 ≤ length map.now }
+pub fn marks_of(map: &[u8; 2048], from: usize) -> u32
+    requires { from + 16 ≤ 2048 }
     ensures { Marks map.now (from * 8) result }
 {
     let mut marks: u32 = 0;

@@ -1,6 +1,5 @@
 // Which lines' cells fetch a dirty byte, a row of names at a time: its eight lines show the same names.
-ghost use Rattle.std.specs.Prelude.{◌≡◌, true, ℕ, ◌+◌, ◌*◌, ◌<◌, length};
-ghost use Rattle.chip.specs.State.{masked};
+ghost use Rattle.std.specs.Prelude.{◌≡◌, ℕ, ◌+◌, ◌*◌, ◌<◌};
 ghost use Rattle.chip.specs.Tables.{patterns, colours};
 ghost use Rattle.dirty.specs.Plane.{ByteBits, table_dirty, names_dirty};
 ghost use Rattle.dirty.specs.Rows.{RowBits};
@@ -14,30 +13,36 @@ use crate::tables::{Table, names_from, names_long, table_from, table_long, third
 use chip::{Mode, Screen};
 
 // Whether one of a row's names is dirty, which all its lines fetch.
-fn names_dirty(mode: Mode, r: [u8; 8], map: &[u8], row: usize) -> bool
-    requires { (masked r ≡ true) × (length map.now ≡ 2048) × (row < 24) }
-    ensures { (k : ℕ) → k < 8 → result ≡ names_dirty mode r map.now (8 * row + k) }
+#[tactic(auto, using(crate::proofs::Laws::Tables::inside))]
+fn names_dirty(mode: Mode, screen: Screen, map: &[u8; 2048], row: usize) -> bool
+    requires { row < 24 }
+    ensures { (k : ℕ) → k < 8 → result ≡ names_dirty mode screen.entry.registers map.now (8 * row + k) }
 {
-    part_dirty(map, names_from(mode, r, row), names_long(mode))
+    part_dirty(map, names_from(mode, screen, row), names_long(mode))
 }
 
 // Whether a table has a dirty byte.
-fn table_dirty(mode: Mode, table: Table, r: [u8; 8], map: &[u8]) -> bool
-    requires { (masked r ≡ true) × (length map.now ≡ 2048) }
-    ensures { result ≡ table_dirty mode (table_of table) r map.now }
+#[tactic(auto, using(crate::proofs::Laws::Tables::inside))]
+fn table_dirty(mode: Mode, table: Table, screen: Screen, map: &[u8; 2048]) -> bool
+    ensures { result ≡ table_dirty mode (table_of table) screen.entry.registers map.now }
 {
-    part_dirty(map, table_from(mode, table, r), table_long(mode, table))
+    part_dirty(
+        map,
+        table_from(mode, table, screen),
+        table_long(mode, table),
+    )
 }
 
 // The lines of a row that fetch a dirty byte of a table.
-fn cells_joined(mode: Mode, table: Table, screen: Screen, map: &[u8], row: usize) -> u8
-    requires { (length map.now ≡ 2048) × (row < 24) }
+#[tactic(auto, using(crate::proofs::Laws::Tables::inside))]
+fn cells_joined(mode: Mode, table: Table, screen: Screen, map: &[u8; 2048], row: usize) -> u8
+    requires { row < 24 }
     ensures { ByteBits result (λ k. cells_dirty mode table screen.entry.registers screen.entry.vram.now map.now (8 * row + k)) }
 {
     let vram = screen.vram;
-    let first = 8 * names_from(mode, screen.registers, row);
+    let first = 8 * names_from(mode, screen, row);
     let names = &vram[first..first + 8 * names_long(mode)];
-    let base = table_from(mode, table, screen.registers) + third_of(mode, row);
+    let base = table_from(mode, table, screen) + third_of(mode, row);
     match (table, mode) {
         (Table::Patterns, _) => shown(mode, row, joined(names, map, base)),
         (Table::Colours, Mode::GraphicsI) => {
@@ -53,8 +58,15 @@ fn cells_joined(mode: Mode, table: Table, screen: Screen, map: &[u8], row: usize
 }
 
 // The same, by whether the table has a dirty byte at all.
-fn cells_dirty(mode: Mode, table: Table, screen: Screen, map: &[u8], row: usize, dirty: bool) -> u8
-    requires { (length map.now ≡ 2048) × (row < 24) × (dirty ≡ table_dirty mode (table_of table) screen.registers map.now) }
+fn cells_dirty(
+    mode: Mode,
+    table: Table,
+    screen: Screen,
+    map: &[u8; 2048],
+    row: usize,
+    dirty: bool,
+) -> u8
+    requires { (row < 24) × (dirty ≡ table_dirty mode (table_of table) screen.registers map.now) }
     ensures { ByteBits result (λ k. cells_dirty mode table screen.entry.registers screen.entry.vram.now map.now (8 * row + k)) }
 {
     if dirty {
@@ -68,15 +80,15 @@ fn cells_dirty(mode: Mode, table: Table, screen: Screen, map: &[u8], row: usize,
 fn row_dirty(
     mode: Mode,
     screen: Screen,
-    map: &[u8],
+    map: &[u8; 2048],
     row: usize,
     in_patterns: bool,
     in_colours: bool,
 ) -> u8
-    requires { (length map.now ≡ 2048) × (row < 24) × (in_patterns ≡ table_dirty mode patterns screen.registers map.now) × (in_colours ≡ table_dirty mode colours screen.registers map.now) }
+    requires { (row < 24) × (in_patterns ≡ table_dirty mode patterns screen.registers map.now) × (in_colours ≡ table_dirty mode colours screen.registers map.now) }
     ensures { ByteBits result (λ k. any_dirty map.now (fetched (plane_of mode screen.entry.registers (8 * row + k)) screen.entry.vram.now)) }
 {
-    if names_dirty(mode, screen.registers, map, row) {
+    if names_dirty(mode, screen, map, row) {
         return 255;
     }
     cells_dirty(mode, Table::Patterns, screen, map, row, in_patterns)
@@ -84,12 +96,11 @@ fn row_dirty(
 }
 
 // Which lines' cells fetch a dirty byte, as a byte for each row of names.
-pub fn plane_rows_dirty(mode: Mode, screen: Screen, map: &[u8]) -> [u8; 24]
-    requires { length map.now ≡ 2048 }
+pub fn plane_rows_dirty(mode: Mode, screen: Screen, map: &[u8; 2048]) -> [u8; 24]
     ensures { RowBits result (λ l. any_dirty map.now (fetched (plane_of mode screen.entry.registers l) screen.entry.vram.now)) }
 {
-    let in_patterns = table_dirty(mode, Table::Patterns, screen.registers, map);
-    let in_colours = table_dirty(mode, Table::Colours, screen.registers, map);
+    let in_patterns = table_dirty(mode, Table::Patterns, screen, map);
+    let in_colours = table_dirty(mode, Table::Colours, screen, map);
     let mut rows: [u8; 24] = [0; 24];
     for (row, byte) in rows.iter_mut().enumerate() {
         *byte = row_dirty(mode, screen, map, row, in_patterns, in_colours);

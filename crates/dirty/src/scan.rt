@@ -1,7 +1,7 @@
 // The lines whose scan fetches a dirty byte.
-ghost use Rattle.std.specs.Prelude.{◌≡◌, true, false, ◌||◌, List, ℕ, ◌+◌, ◌*◌, ◌<◌, length, get_or};
+ghost use Rattle.std.specs.Prelude.{◌≡◌, true, false, ◌||◌, List, ℕ, ◌+◌, ◌*◌, ◌<◌, get_or};
 ghost use Rattle.chip.specs.Bits.{bit};
-ghost use Rattle.chip.specs.State.{masked, Bytes};
+ghost use Rattle.chip.specs.State.{Bytes};
 ghost use Rattle.fetches.specs.Fetch.{fetched, any_dirty};
 ghost use Rattle.sprites.specs.Scan.{scan_of};
 ghost use Rattle.sets.specs.Sets.{IsSet, Sets};
@@ -13,17 +13,16 @@ use chip::{Screen, set_bit};
 use sprites::scan_dirty;
 
 // Whether no byte that a scan can read is dirty.
-pub fn sprites_clear(r: [u8; 8], map: &[u8]) -> bool
-    requires { (masked r ≡ true) × (length map.now ≡ 2048) }
-    ensures { result ≡ true → (l : ℕ) (vram : List ℕ) → Bytes vram → any_dirty map.now (fetched (scan_of r l) vram) ≡ false }
+pub fn sprites_clear(screen: Screen, map: &[u8; 2048]) -> bool
+    ensures { result ≡ true → (l : ℕ) (vram : List ℕ) → Bytes vram → any_dirty map.now (fetched (scan_of screen.entry.registers l) vram) ≡ false }
 {
-    !part_dirty(map, attributes_from(r), 16) && patterns_clear(r, map)
+    !part_dirty(map, attributes_from(screen), 16) && patterns_clear(screen, map)
 }
 
 // Whether the scan of line l fetches a dirty byte. Where neither a Y nor a pattern is dirty, it does not if no sprite that covers
 // the line is marked.
-fn line_marked(screen: Screen, map: &[u8], l: u8, set: u32, marks: u32, quiet: bool) -> bool
-    requires { (length map.now ≡ 2048) × IsSet screen.registers screen.vram.now l set × Marks map.now (attributes_at screen.registers) marks × (quiet ≡ true → Quiet screen.registers map.now) }
+fn line_marked(screen: Screen, map: &[u8; 2048], l: u8, set: u32, marks: u32, quiet: bool) -> bool
+    requires { IsSet screen.registers screen.vram.now l set × Marks map.now (attributes_at screen.registers) marks × (quiet ≡ true → Quiet screen.registers map.now) }
     ensures { result ≡ scan_dirty screen.entry.registers screen.entry.vram.now map.now l }
 {
     if quiet && set & marks == 0 {
@@ -35,14 +34,14 @@ fn line_marked(screen: Screen, map: &[u8], l: u8, set: u32, marks: u32, quiet: b
 // Adds the answers of a row's eight lines to its byte. Where all of them are dirty already no sprite is looked at.
 fn row_marked(
     screen: Screen,
-    map: &[u8],
-    sets: &[u32],
+    map: &[u8; 2048],
+    sets: &[u32; 192],
     row: usize,
     before: u8,
     marks: u32,
     quiet: bool,
 ) -> u8
-    requires { (length map.now ≡ 2048) × Sets screen.registers screen.vram.now sets.now × (row < 24) × Marks map.now (attributes_at screen.registers) marks × (quiet ≡ true → Quiet screen.registers map.now) }
+    requires { Sets screen.registers screen.vram.now sets.now × (row < 24) × Marks map.now (attributes_at screen.registers) marks × (quiet ≡ true → Quiet screen.registers map.now) }
     ensures { (k : ℕ) → k < 8 → bit k result ≡ (bit k before || scan_dirty screen.entry.registers screen.entry.vram.now map.now (8 * row + k)) }
 {
     if before == 255 {
@@ -59,13 +58,12 @@ fn row_marked(
 }
 
 // Adds to the rows' bytes the lines whose scan fetches a dirty byte.
-pub fn add_marked(screen: Screen, map: &[u8], sets: &[u32], rows: &mut [u8])
-    requires { (length map.now ≡ 2048) × Sets screen.registers screen.vram.now sets.now × (length rows.old ≡ 24) }
-    ensures rows_len { length rows.new ≡ 24 }
+pub fn add_marked(screen: Screen, map: &[u8; 2048], sets: &[u32; 192], rows: &mut [u8; 24])
+    requires { Sets screen.registers screen.vram.now sets.now }
     ensures by_index { (row k : ℕ) → row < 24 → k < 8 → bit k (get_or rows.new row 0) ≡ (bit k (get_or rows.old row 0) || any_dirty map.now (fetched (scan_of screen.entry.registers (8 * row + k)) screen.entry.vram.now)) }
 {
-    let from = attributes_from(screen.registers);
-    let quiet = ys_clear(map, from) && patterns_clear(screen.registers, map);
+    let from = attributes_from(screen);
+    let quiet = ys_clear(map, from) && patterns_clear(screen, map);
     let marks = marks_of(map, from);
     for (row, byte) in rows.iter_mut().enumerate() {
         *byte = row_marked(screen, map, sets, row, *byte, marks, quiet);

@@ -1,12 +1,11 @@
 // Where the bits of the pattern plane's tables stand in the map: a byte for eight bytes of a table.
-ghost use Rattle.std.specs.Prelude.{◌≡◌, true, ◌*◌, ◌<◌, ◌+◌};
-ghost use Rattle.chip.specs.State.{masked};
+ghost use Rattle.std.specs.Prelude.{◌≡◌, ◌*◌, ◌<◌, ◌+◌};
 ghost use Rattle.chip.specs.Tables.{names, base, size};
 ghost use Rattle.dirty.specs.Plane.{third_of};
 ghost use Rattle.dirty.specs.Tables.{table_of};
 ghost use Rattle.planes.specs.Cells.{cells_in};
 
-use chip::Mode;
+use chip::{Mode, Screen};
 
 // The two tables that names choose from.
 #[derive(Clone, Copy)]
@@ -16,6 +15,7 @@ pub enum Table {
 }
 
 // How many bytes a row of names takes.
+// This, table_long and third_of stay three functions, as they are three definitions: a struct would only be taken apart where it is made.
 pub fn names_long(mode: Mode) -> usize
     ensures { 8 * result ≡ cells_in mode }
 {
@@ -27,18 +27,18 @@ pub fn names_long(mode: Mode) -> usize
 }
 
 // The first of them.
-pub fn names_from(mode: Mode, r: [u8; 8], row: usize) -> usize
-    requires { (masked r ≡ true) × (row < 24) }
-    ensures { 8 * result ≡ base mode names r + row * cells_in mode }
+pub fn names_from(mode: Mode, screen: Screen, row: usize) -> usize
+    requires { row < 24 }
+    ensures { 8 * result ≡ base mode names screen.entry.registers + row * cells_in mode }
 {
-    r[2] as usize * 128 + row * names_long(mode)
+    screen.registers[2] as usize * 128 + row * names_long(mode)
 }
 
 // A table's first byte. Graphics II takes only the highest bit of its register.
-pub fn table_from(mode: Mode, table: Table, r: [u8; 8]) -> usize
-    requires { masked r ≡ true }
-    ensures { 8 * result ≡ base mode (table_of table) r }
+pub fn table_from(mode: Mode, table: Table, screen: Screen) -> usize
+    ensures { 8 * result ≡ base mode (table_of table) screen.entry.registers }
 {
+    let r = screen.registers;
     match (mode, table) {
         (Mode::GraphicsII, Table::Patterns) => r[4] as usize / 4 * 1024,
         (Mode::GraphicsII, Table::Colours) => r[3] as usize / 128 * 1024,

@@ -46,8 +46,14 @@ fn draw_due(
     if let Err(refusal) = tested(chip, vram, map, frame, notes) {
         return chip.refused(refusal);
     }
-    let screen = Screen::new(chip.registers, vram);
-    let redrawn = redraw_lines(redraw, screen, map, frame, notes);
+    let screen = Screen::new(chip.registers, vram.try_into().unwrap());
+    let Some(frame) = frame.as_mut_array() else {
+        unreachable!()
+    };
+    let Some(notes) = notes.as_mut_array() else {
+        unreachable!()
+    };
+    let redrawn = redraw_lines(redraw, screen, map[..].try_into().unwrap(), frame, notes);
     let mut next = chip;
     next.status = status_through(chip.status, notes);
     next.redraw = false;

@@ -1,5 +1,5 @@
 // Redrawing the lines that are due.
-ghost use Rattle.std.specs.Prelude.{◌≡◌, length};
+ghost use Rattle.std.specs.Prelude.{◌≡◌};
 ghost use Rattle.chip.specs.Lists.{tabulate};
 ghost use Rattle.chip.specs.Modes.{mode_of};
 ghost use Rattle.dirty.specs.Rows.{RowBits};
@@ -17,8 +17,7 @@ use sets::sets_of;
 
 // Which lines are "due", as the scope calls it, a byte for each row of names. With the redraw mark set all are, and no map is read;
 // with it and the map clear none is, and no line is looked at.
-fn due_rows(redraw: bool, screen: Screen, map: &[u8]) -> [u8; 24]
-    requires { length map.now ≡ 2048 }
+fn due_rows(redraw: bool, screen: Screen, map: &[u8; 2048]) -> [u8; 24]
     ensures { RowBits result (due.due redraw screen.entry.registers screen.entry.vram.now map.now) }
 {
     if redraw {
@@ -59,8 +58,8 @@ fn drawing_of<'a>(screen: Screen<'a>) -> Drawing<'a>
 }
 
 // Redraws the lines of the rows, and counts them.
-fn redraw_rows(rows: [u8; 24], screen: Screen, frame: &mut [u8], notes: &mut [u8]) -> u8
-    requires { (length rows ≡ 24) × (length frame.old ≡ 49152) × (length notes.old ≡ 192) }
+#[tactic(auto, using(crate::proofs::Laws::Step::by_rows))]
+fn redraw_rows(rows: [u8; 24], screen: Screen, frame: &mut [u8; 49152], notes: &mut [u8; 192]) -> u8
     ensures value { result ≡ count_below 192 (due_bit rows) }
     ensures frame_after { frame.new ≡ lines_end_to_end 192 (line_by rows screen.entry.registers screen.entry.vram.now frame.old) }
     ensures notes_after { notes.new ≡ tabulate 192 (note_by_rows rows screen.entry.registers screen.entry.vram.now notes.old) }
@@ -85,14 +84,14 @@ fn redraw_rows(rows: [u8; 24], screen: Screen, frame: &mut [u8], notes: &mut [u8
 }
 
 // Redraws the due lines, and counts them. Where none is due no table is made.
+#[tactic(auto, using(crate::proofs::Laws::Bits::by_bits))]
 pub fn redraw_lines(
     redraw: bool,
     screen: Screen,
-    map: &[u8],
-    frame: &mut [u8],
-    notes: &mut [u8],
+    map: &[u8; 2048],
+    frame: &mut [u8; 49152],
+    notes: &mut [u8; 192],
 ) -> u8
-    requires { (length map.now ≡ 2048) × (length frame.old ≡ 49152) × (length notes.old ≡ 192) }
     ensures value { result ≡ due.due_count redraw screen.entry.registers screen.entry.vram.now map.now }
     ensures frame_after { frame.new ≡ due.new_frame redraw screen.entry.registers screen.entry.vram.now map.now frame.old }
     ensures notes_after { notes.new ≡ due.new_notes redraw screen.entry.registers screen.entry.vram.now map.now notes.old }

@@ -7,6 +7,7 @@ ghost use Rattle.input.specs.Came.{buffer_size, long_buffer_size, Came};
 use std::io::Read;
 
 // A buffer with room for one byte more than a snapshot has, so that a longer file is seen: it fills the buffer.
+// (This and the next are two functions: with the size as a parameter a program could ask for a third.)
 pub fn buffer() -> [u8; 16407]
     ensures { length result ≡ buffer_size }
 {
@@ -38,6 +39,7 @@ fn read_full<R: Read>(reader: &mut R, buffer: &mut [u8]) -> usize
 
 // Reads into a buffer of one of the two lengths, from its front on, until it is full, the input ends or a read fails. Answers how
 // many bytes came.
+// (A count beside the buffer, as `Read::read` does: a slice of it would keep it borrowed, and the contract would have to give it back.)
 pub fn read<R: Read, const N: usize>(reader: &mut R, buffer: &mut [u8; N]) -> usize
     requires { (N ≡ buffer_size) ⊎ (N ≡ long_buffer_size) }
     ensures { Came N result buffer.new }

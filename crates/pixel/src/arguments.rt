@@ -1,5 +1,5 @@
 // The words that the program is called with.
-ghost use Rattle.std.specs.Prelude.{◌≡◌, true, ◌+◌, ◌-◌, ◌*◌, min};
+ghost use Rattle.std.specs.Prelude.{◌≡◌, true, min};
 ghost use Rattle.pixel.specs.Arguments as arguments;
 
 // Whether a word is one digit or more, and nothing else.
@@ -16,23 +16,14 @@ pub fn rightly_called(argc: usize, first: &[u8], second: &[u8]) -> bool
     (argc == 3) & (is_number(first) & is_number(second))
 }
 
-// A number that is too large for its type stands for the largest one, which is refused like it.
-fn one_digit_more(n: u32, c: u8) -> u32
-    requires { arguments.is_digit c ≡ true }
-    ensures { result ≡ min (n * 10 + (c - 48)) 4294967295 }
-{
-    n.saturating_mul(10).saturating_add(u32::from(c - b'0'))
-}
-
-// The number that a word's digits stand for, or the largest of the type.
-#[tactic(auto, using(crate::proofs::Laws::Arguments::digits), unfolding(crate::specs::Arguments::with_digits))]
+// The number that a word's digits stand for, or the largest of the type where it is too large, which is refused like it.
+#[tactic(auto, using(crate::proofs::Laws::Arguments::parsing))]
 pub fn number_in(word: &[u8]) -> u32
     requires { arguments.is_number word.now ≡ true }
     ensures { result ≡ min (arguments.number_in word.now) 4294967295 }
 {
-    let mut n = 0;
-    for c in word {
-        n = one_digit_more(n, *c);
-    }
-    n
+    let Ok(digits) = str::from_utf8(word) else {
+        return u32::MAX;
+    };
+    digits.parse::<u32>().unwrap_or(u32::MAX)
 }

@@ -1,4 +1,5 @@
 // Shows the colour of one point of the snapshot on standard input, and where it comes from.
+// Lines, columns and sprites are plain numbers with their bounds in `requires` (see `chip::Screen`).
 #![tactic(auto)]
 
 mod arguments;

@@ -24,7 +24,7 @@ const NAMES: [&[u8]; 16] = [
     b"white",
 ];
 
-// Puts a colour's name into a slice from a place on. Answers the place behind it.
+// Puts a colour's name into a slice from a place on. Answers the place behind it. (A slice and a place: see origins.rt.)
 #[tactic(auto, unfolding(crate::specs::Names::name_of))]
 pub fn put_name(out: &mut [u8], at: usize, colour: u8) -> usize
     requires { at + 12 ≤ length out.old }

@@ -1,4 +1,4 @@
-// All that the program writes.
+// All that the program writes. (A slice and a place: see origins.rt.)
 ghost use Rattle.std.specs.Prelude.{◌≡◌, ◌≤◌, length};
 ghost use Rattle.chip.specs.Lists.{put_at};
 ghost use Rattle.pixel.specs.Output.{colour_text, point_text, pixel_output};
@@ -25,7 +25,7 @@ fn put_colour(out: &mut [u8], colour: u8) -> usize
 
 // The colour at a line and a column and its origin, or the refusal of the point.
 #[tactic(auto, using(crate::proofs::Laws::Output::points), unfolding(crate::specs::Output::point_text, crate::specs::Output::shown_text))]
-fn put_point(out: &mut [u8], chip: Chip, vram: &[u8], line: u32, column: u32) -> usize
+fn put_point(out: &mut [u8], chip: Chip, vram: &[u8; 16384], line: u32, column: u32) -> usize
     requires { 128 ≤ length out.old }
     ensures value { result ≡ length (point_text line column chip vram.now) }
     ensures out_after { out.new ≡ put_at 0 (point_text line column chip vram.now) out.old }

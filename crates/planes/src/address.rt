@@ -1,9 +1,8 @@
 // Where a cell's bytes stand.
-ghost use Rattle.std.specs.Prelude.{◌≡◌, true, ◌<◌};
-ghost use Rattle.chip.specs.State.{masked};
+ghost use Rattle.std.specs.Prelude.{◌≡◌, ◌<◌};
 ghost use Rattle.planes.specs.Cells.{cells_in, name_address, pattern_address, colour_address};
 
-use chip::Mode;
+use chip::{Mode, Screen};
 
 // How many cells a line has. (A mode's three numbers, with `cell_width` and `margin_of`, stay three functions, as they are three
 // definitions: a struct of them would only be taken apart where it is made.)
@@ -19,21 +18,21 @@ pub fn cells_in(mode: Mode) -> usize
 
 // The name of cell i of line l.
 #[tactic(auto, unfolding(crate::specs::Cells::name_address))]
-pub fn name_address(mode: Mode, r: [u8; 8], l: usize, i: usize) -> usize
-    requires { (masked r ≡ true) × (l < 192) × (i < cells_in mode) }
-    ensures { result ≡ name_address mode r l i }
+pub fn name_address(mode: Mode, screen: Screen, l: usize, i: usize) -> usize
+    requires { (l < 192) × (i < cells_in mode) }
+    ensures { result ≡ name_address mode screen.entry.registers l i }
 {
-    r[2] as usize * 1024 + (l / 8 * cells_in(mode) + i)
+    screen.registers[2] as usize * 1024 + (l / 8 * cells_in(mode) + i)
 }
 
 // The pattern byte of a name on line l.
 #[tactic(auto, unfolding(crate::specs::Cells::pattern_address))]
-pub fn pattern_address(mode: Mode, r: [u8; 8], l: usize, name: u8) -> usize
-    requires { (masked r ≡ true) × (l < 192) }
-    ensures { result ≡ pattern_address mode r l name }
+pub fn pattern_address(mode: Mode, screen: Screen, l: usize, name: u8) -> usize
+    requires { l < 192 }
+    ensures { result ≡ pattern_address mode screen.entry.registers l name }
 {
     let n = name as usize;
-    let b = r[4] as usize;
+    let b = screen.registers[4] as usize;
     match mode {
         Mode::Blank => 0,
         Mode::GraphicsI | Mode::Text => b * 2048 + (8 * n + l % 8),
@@ -44,12 +43,12 @@ pub fn pattern_address(mode: Mode, r: [u8; 8], l: usize, name: u8) -> usize
 
 // The colours of a name on line l, in the modes that have a table of them.
 #[tactic(auto, unfolding(crate::specs::Cells::colour_address))]
-pub fn colour_address(mode: Mode, r: [u8; 8], l: usize, name: u8) -> usize
-    requires { (masked r ≡ true) × (l < 192) }
-    ensures { result ≡ colour_address mode r l name }
+pub fn colour_address(mode: Mode, screen: Screen, l: usize, name: u8) -> usize
+    requires { l < 192 }
+    ensures { result ≡ colour_address mode screen.entry.registers l name }
 {
     let n = name as usize;
-    let b = r[3] as usize;
+    let b = screen.registers[3] as usize;
     match mode {
         Mode::GraphicsI => b * 64 + n / 8,
         Mode::GraphicsII => b / 128 * 8192 + (l / 64 * 2048 + 8 * n + l % 8),

@@ -28,10 +28,10 @@ pub fn addresses_at(mode: Mode, screen: Screen, l: usize, x: usize) -> CellAddre
         };
     }
     let place = place_of(mode, x);
-    let at = name_address(mode, screen.registers, l, place.cell);
+    let at = name_address(mode, screen, l, place.cell);
     let name = screen.vram[at];
-    let pattern = pattern_address(mode, screen.registers, l, name);
-    let colours = colour_address(mode, screen.registers, l, name);
+    let pattern = pattern_address(mode, screen, l, name);
+    let colours = colour_address(mode, screen, l, name);
     CellAddresses {
         name: at,
         pattern,

@@ -18,8 +18,8 @@ fn pattern_and_colours(mode: Mode, screen: Screen, l: usize, name: u8) -> Cell
     requires { l < 192 }
     ensures { result ≡ value (pattern_and_colours mode screen.entry.registers l name) screen.entry.vram.now }
 {
-    let pattern = screen.vram[pattern_address(mode, screen.registers, l, name)];
-    let colours = screen.vram[colour_address(mode, screen.registers, l, name)];
+    let pattern = screen.vram[pattern_address(mode, screen, l, name)];
+    let colours = screen.vram[colour_address(mode, screen, l, name)];
     Cell { pattern, colours }
 }
 
@@ -39,10 +39,10 @@ fn shape_of(mode: Mode, screen: Screen, l: usize, name: u8) -> Cell
         Mode::GraphicsII => pattern_and_colours(mode, screen, l, name),
         Mode::Multicolor => Cell {
             pattern: 0xF0,
-            colours: screen.vram[pattern_address(mode, screen.registers, l, name)],
+            colours: screen.vram[pattern_address(mode, screen, l, name)],
         },
         Mode::Text => Cell {
-            pattern: screen.vram[pattern_address(mode, screen.registers, l, name)],
+            pattern: screen.vram[pattern_address(mode, screen, l, name)],
             colours: screen.registers[7],
         },
     }
@@ -54,6 +54,6 @@ pub fn cell_of(mode: Mode, screen: Screen, l: usize, i: usize) -> Cell
     requires { (l < 192) × (i < cells_in mode) }
     ensures { result ≡ value (cell_of mode screen.entry.registers l i) screen.entry.vram.now }
 {
-    let name = screen.vram[name_address(mode, screen.registers, l, i)];
+    let name = screen.vram[name_address(mode, screen, l, i)];
     shape_of(mode, screen, l, name)
 }

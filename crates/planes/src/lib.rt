@@ -1,4 +1,6 @@
 // The pattern plane: the cells of a line in each mode, and the pixels that they show over the backdrop.
+// Lines, cells and columns are plain numbers with their bounds in `requires` (see `chip::Screen`). The mode stands beside the screen that
+// it is of, since the drawers are made for one mode each, which a caller names.
 #![tactic(auto)]
 
 mod address;

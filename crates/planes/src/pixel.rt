@@ -11,7 +11,8 @@ pub fn over(front: u8, behind: u8) -> u8
     if front == 0 { behind } else { front }
 }
 
-// The colour of what stands behind the pattern plane.
+// The colour of what stands behind the pattern plane. (`pixel_behind` has its origin too, which those that
+// paint colours do not want.)
 pub fn behind_planes(registers: [u8; 8]) -> u8
     ensures { result ≡ pixel.behind_planes registers }
 {

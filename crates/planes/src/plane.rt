@@ -1,5 +1,5 @@
 // The pattern plane of a line over the backdrop.
-ghost use Rattle.std.specs.Prelude.{◌≡◌, [], ◌+◌, ◌≤◌, ◌<◌, length};
+ghost use Rattle.std.specs.Prelude.{◌≡◌, [], ◌+◌, ◌≤◌, ◌<◌};
 ghost use Rattle.chip.specs.Lists.{tabulate};
 ghost use Rattle.fetches.specs.Fetch.{value};
 ghost use Rattle.planes.specs.Cells.{cell_width, margin, plane_of};
@@ -16,6 +16,7 @@ use crate::paint::paint_pattern;
 use crate::pixel::{behind_planes, over};
 use chip::{Mode, Screen};
 
+// Three numbers of a mode stay three functions (see `cells_in`).
 pub fn cell_width(mode: Mode) -> usize
     ensures { result ≡ cell_width mode }
 {
@@ -35,13 +36,13 @@ pub fn margin_of(mode: Mode) -> usize
 }
 
 // A cell's pixels over what stands behind them.
-fn show_cell(line: &mut [u8], at: usize, width: usize, cell: Cell, behind: u8)
-    requires { (at + width ≤ length line.old) × ((width ≡ 8 → ⊥) → width ≡ 6) }
-    ensures { Painted line.new line.old at width (λ k. pixel.over (pick cell k) behind) }
+fn show_cell(line: &mut [u8; 256], at: usize, mode: Mode, cell: Cell, behind: u8)
+    requires { at + cell_width mode ≤ 256 }
+    ensures { Painted line.new line.old at (cell_width mode) (λ k. pixel.over (pick cell k) behind) }
 {
     let one = over(cell.colours / 16, behind);
     let zero = over(cell.colours % 16, behind);
-    paint_pattern(line, at, width, cell.pattern, one, zero);
+    paint_pattern(line, at, mode, cell.pattern, one, zero);
 }
 
 // The code of a pixel's origin where the plane has this colour.
@@ -52,19 +53,19 @@ fn plane_code(colour: u8, behind: Pixel) -> u8
 }
 
 // The origins of a cell's pixels, as codes. (A closure for the one step that differs would need a contract of its own: no plainer.)
-fn show_origins(origins: &mut [u8], at: usize, width: usize, cell: Cell, behind: Pixel)
-    requires { (at + width ≤ length origins.old) × ((width ≡ 8 → ⊥) → width ≡ 6) }
-    ensures { Painted origins.new origins.old at width (λ k. origin_code (in_front (pick cell k) Pattern behind).origin) }
+fn show_origins(origins: &mut [u8; 256], at: usize, mode: Mode, cell: Cell, behind: Pixel)
+    requires { at + cell_width mode ≤ 256 }
+    ensures { Painted origins.new origins.old at (cell_width mode) (λ k. origin_code (in_front (pick cell k) Pattern behind).origin) }
 {
     let one = plane_code(cell.colours / 16, behind);
     let zero = plane_code(cell.colours % 16, behind);
-    paint_pattern(origins, at, width, cell.pattern, one, zero);
+    paint_pattern(origins, at, mode, cell.pattern, one, zero);
 }
 
 // Counts through the cells.
 #[inline(always)]
-fn draw_cells(mode: Mode, screen: Screen, l: usize, line: &mut [u8])
-    requires { (l < 192) × (length line.old ≡ 256) }
+fn draw_cells(mode: Mode, screen: Screen, l: usize, line: &mut [u8; 256])
+    requires { l < 192 }
     ensures { line.new ≡ tabulate 256 (λ x. pixel.pixel_of screen.entry.registers [] (plane_colour mode (value (plane_of mode screen.entry.registers l) screen.entry.vram.now) x)) }
 {
     let behind = behind_planes(screen.registers);
@@ -74,14 +75,14 @@ fn draw_cells(mode: Mode, screen: Screen, l: usize, line: &mut [u8])
     let margin = margin_of(mode);
     for i in 0..cells {
         let cell = cell_of(mode, screen, l, i);
-        show_cell(line, margin + i * width, width, cell, behind);
+        show_cell(line, margin + i * width, mode, cell, behind);
     }
 }
 
 // The pattern plane of line l over the backdrop, into a lent line. Multicolor's cells all have one pattern, which the compiler knows
 // in a loop of their own: two stores paint a cell.
-pub fn draw_plane(mode: Mode, screen: Screen, l: usize, line: &mut [u8])
-    requires { (l < 192) × (length line.old ≡ 256) }
+pub fn draw_plane(mode: Mode, screen: Screen, l: usize, line: &mut [u8; 256])
+    requires { l < 192 }
     ensures { line.new ≡ tabulate 256 (λ x. pixel.pixel_of screen.entry.registers [] (plane_colour mode (value (plane_of mode screen.entry.registers l) screen.entry.vram.now) x)) }
 {
     match mode {
@@ -96,10 +97,10 @@ pub fn draw_plane_with_origins(
     mode: Mode,
     screen: Screen,
     l: usize,
-    line: &mut [u8],
-    origins: &mut [u8],
+    line: &mut [u8; 256],
+    origins: &mut [u8; 256],
 )
-    requires { (l < 192) × (length line.old ≡ 256) × (length origins.old ≡ 256) }
+    requires { l < 192 }
     ensures line_after { line.new ≡ tabulate 256 (λ x. pixel.pixel_of screen.entry.registers [] (plane_colour mode (value (plane_of mode screen.entry.registers l) screen.entry.vram.now) x)) }
     ensures origins_after { origins.new ≡ tabulate 256 (λ x. origin_code (settle screen.entry.registers [] (plane_colour mode (value (plane_of mode screen.entry.registers l) screen.entry.vram.now) x)).origin) }
 {
@@ -112,7 +113,7 @@ pub fn draw_plane_with_origins(
     for i in 0..cells_in(mode) {
         let cell = cell_of(mode, screen, l, i);
         let at = margin + i * width;
-        show_cell(line, at, width, cell, colour);
-        show_origins(origins, at, width, cell, behind);
+        show_cell(line, at, mode, cell, colour);
+        show_origins(origins, at, mode, cell, behind);
     }
 }

@@ -38,9 +38,9 @@ impl PointAnswer {
 fn point_at(chip: Chip, vram: &[u8], line: u32, column: u32) -> Result<Point, Refusal>
     ensures { result ≡ calls.point_at chip vram.now line column }
 {
-    if vram.len() != 16384 {
+    let Some(vram) = vram.as_array::<16384>() else {
         return Err(Refusal::VramLength);
-    }
+    };
     if !chip.is_well_formed() {
         return Err(Refusal::IllFormed);
     }

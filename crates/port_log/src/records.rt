@@ -20,7 +20,8 @@ pub struct Record {
     pub value: u8,
 }
 
-// The operation with a number. No other number is allowed in a record, and only allowed records run.
+// The operation with a number. No other number is allowed in a record, and only allowed records run. (No TryFrom: the definition
+// `operation_of` gives every number one, and `allowed` looks at the number.)
 impl From<u8> for Operation {
     ghost from_gives = { λ number operation. operation ≡ records.operation_of number };
 
@@ -76,14 +77,14 @@ pub fn record_at(bytes: &[u8], i: usize) -> Record
     }
 }
 
-// Whether every record is allowed.
+// Whether every record is allowed. The loop has no early end, so that the compiler tests many records at a time.
+#[tactic(auto, using(crate::proofs::Laws::Records::allowed_next, crate::proofs::Laws::Records::allowed_none))]
 pub fn all_allowed(bytes: &[u8]) -> bool
     ensures { result ≡ records.all_allowed (records.records_of bytes.now) }
 {
+    let mut allowed = true;
     for i in 0..bytes.len() / 2 {
-        if !is_allowed(record_at(bytes, i)) {
-            return false;
-        }
+        allowed &= is_allowed(record_at(bytes, i));
     }
-    true
+    allowed
 }

@@ -5,13 +5,13 @@ ghost use Rattle.port_log.specs.Single.{target};
 ghost use Rattle.port_log.specs.Run as runs;
 
 use crate::form::{record_bytes, tested};
-use crate::records::{Operation, Record, is_read, record_at};
+use crate::records::{Operation, is_read, record_at};
 use crate::single::make_call;
 use crate::stretch::write_stretch;
 use chip::{Answer, Chip, Refusal};
 
 // How far a run came: how many records are done, the place of the read that differed or the count of records, and the byte that
-// was found there or 0.
+// was found there or 0. (These are the numbers of a call from C, `outcome_of`: no read differed where the place is the count.)
 #[derive(Clone, Copy, PartialEq, Eq, Debug)]
 pub struct Reached {
     pub done: u16,
@@ -27,7 +27,7 @@ pub struct Ran {
 }
 
 impl Ran {
-    // State, refusal and byte found, as a call answers them.
+    // State, refusal and byte found, as a call answers them. (A method, as PointAnswer has: a call from C hands back one number.)
     pub fn answer(self) -> Answer
         ensures { result ≡ runs.answer_of self }
     {
@@ -45,13 +45,6 @@ fn refused(chip: Chip, refusal: Refusal) -> Ran
         chip,
         result: Err(refusal),
     }
-}
-
-// Whether the record is of a read that found another byte.
-fn differs(record: Record, byte: u8) -> bool
-    ensures { result ≡ runs.differs «record» byte }
-{
-    is_read(Operation::from(record.operation)) & (byte != record.value)
 }
 
 // The records' calls, one after another, until a read differs.
@@ -76,18 +69,21 @@ fn run_records(chip: Chip, vram: &mut [u8], map: &mut [u8], line: &mut [u8], rec
         }
         let operation = Operation::from(record.operation);
         let answer = make_call(chip, vram, map, line, operation, record.value);
-        let byte = answer.result.unwrap_or(0);
         chip = answer.chip;
-        if differs(record, byte) {
-            let reached = Reached {
-                done: (i + 1) as u16,
-                place: i as u16,
-                found: byte,
-            };
-            return Ran {
-                chip,
-                result: Ok(reached),
-            };
+        // One test inside the other: with both in one, the compiler tests the address and the waiting byte anew at each data write.
+        if is_read(operation) {
+            let byte = answer.result.unwrap_or(0);
+            if byte != record.value {
+                let reached = Reached {
+                    done: (i + 1) as u16,
+                    place: i as u16,
+                    found: byte,
+                };
+                return Ran {
+                    chip,
+                    result: Ok(reached),
+                };
+            }
         }
         i += 1;
     }

@@ -1,4 +1,5 @@
-// The single call that a record names. (A run takes data writes together, in stretch.rt, and does not come here with one.)
+// The single call that a record names. (A run takes data writes together, in stretch.rt, and does not come here with one. State and slices
+// are four parameters: a struct of lent slices would have a clause for each of them all the same.)
 ghost use Rattle.std.specs.Prelude.{◌≡◌};
 ghost use Rattle.port_log.specs.Single as single;
 

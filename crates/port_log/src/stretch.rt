@@ -13,6 +13,7 @@ pub struct Stretch {
 }
 
 // Makes the data write at place i and those right behind it. What is left to run ends as before, whatever the line slice holds.
+// (The place is counted by hand: it is answered, and that the record at i is a data write the caller has seen.)
 pub fn write_stretch(
     chip: Chip,
     vram: &mut [u8],

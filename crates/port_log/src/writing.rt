@@ -7,7 +7,7 @@ use crate::form::size_allowed;
 use crate::records::all_allowed;
 use chip::{Refusal, put};
 
-// The records, and then the trailer.
+// The records, and then the trailer. (A slice's own `fill` stores one value in every place.)
 fn fill(records: &[u8], log: &mut [u8])
     requires { (length log.old ≡ length records.now + 4) × (length records.now ≤ 40000) }
     ensures { log.new ≡ log_of records.now }

@@ -33,7 +33,8 @@ fn first_next(read: Result<u8, Refusal>) -> Next
     }
 }
 
-// Reads the file as a snapshot into VRAM, which has its length by type: no program can lend another.
+// Reads the file as a snapshot into VRAM, which has its length by type: no program can lend another. (`text` has its
+// own: each makes its own walk, whose fields are private to it.)
 #[tactic(auto, using(crate::proofs::Laws::Start::started))]
 pub fn start(file: &[u8], vram: &mut [u8; 16384]) -> Walk
     ensures value { result ≡ walks.start_walk vram.old file.now }

@@ -15,13 +15,15 @@ use sets::scan_by_set;
 pub enum Planes {
     // In the frame.
     Here,
-    // In lines beside the frame, from which those that are due are copied.
+    // In lines beside the frame, from which those that are due are copied. (They are not in here: they are lent for the next row again, so
+    // that this would have to give them back. What holds of each case is therefore asked in three functions.)
     Beside,
     Nowhere,
 }
 
 // The sprites over the plane of line l. Answers the note.
-fn finish_line(brush: &Brush, l: u8, set: u32, line: &mut [u8]) -> u8
+#[tactic(auto, using(crate::proofs::Laws::Finish::finished))]
+fn finish_line(brush: &Brush, l: u8, set: u32, line: &mut [u8; 256]) -> u8
     requires { LineSet brush.now.screen.registers brush.now.screen.vram.now l set × (line.old ≡ plane_line brush.now.screen.registers brush.now.screen.vram.now l) }
     ensures value { result ≡ note_at brush.now.screen.registers brush.now.screen.vram.now l }
     ensures line_after { line.new ≡ colours brush.now.screen.registers brush.now.screen.vram.now l }
@@ -31,13 +33,13 @@ fn finish_line(brush: &Brush, l: u8, set: u32, line: &mut [u8]) -> u8
     }
     let scan = scan_by_set(brush.screen, l, set);
     let ended = scan.ended;
-    let met = draw_found(line, &brush.masks, brush.screen.registers, scan);
+    let met = draw_found(line, &brush.masks, scan);
     note_of(ended, met)
 }
 
 // Brings the plane of line l into its part of the frame, where it is not there yet.
-fn bring_plane(planes: Planes, drawing: &Drawing, l: u8, beside: &[u8], line: &mut [u8])
-    requires { (l < 192) × (length beside.now ≡ 256) × (length line.old ≡ 256) × (planes ≡ Here → line.old ≡ plane_line drawing.now.brush.screen.registers drawing.now.brush.screen.vram.now l) × (planes ≡ Beside → beside.now ≡ plane_line drawing.now.brush.screen.registers drawing.now.brush.screen.vram.now l) }
+fn bring_plane(planes: Planes, drawing: &Drawing, l: u8, beside: &[u8; 256], line: &mut [u8; 256])
+    requires { (l < 192) × (planes ≡ Here → line.old ≡ plane_line drawing.now.brush.screen.registers drawing.now.brush.screen.vram.now l) × (planes ≡ Beside → beside.now ≡ plane_line drawing.now.brush.screen.registers drawing.now.brush.screen.vram.now l) }
     ensures { line.new ≡ plane_line drawing.now.brush.screen.registers drawing.now.brush.screen.vram.now l }
 {
     match planes {
@@ -47,23 +49,26 @@ fn bring_plane(planes: Planes, drawing: &Drawing, l: u8, beside: &[u8], line: &m
     }
 }
 
-// If line l is due, it is drawn into its part of the frame. Answers its note.
+// If line l is due, it is drawn into its part of the frame, which becomes an array here (see `redraw_row`). Answers its note.
 pub fn redraw_line(
     planes: Planes,
     due: bool,
     drawing: &Drawing,
     l: u8,
-    beside: &[u8],
+    beside: &[u8; 256],
     line: &mut [u8],
     note: u8,
 ) -> u8
-    requires { (l < 192) × (length beside.now ≡ 256) × (length line.old ≡ 256) × (planes ≡ Here → line.old ≡ plane_line drawing.now.brush.screen.registers drawing.now.brush.screen.vram.now l) × (planes ≡ Beside → beside.now ≡ plane_line drawing.now.brush.screen.registers drawing.now.brush.screen.vram.now l) }
+    requires { (l < 192) × (length line.old ≡ 256) × (planes ≡ Here → line.old ≡ plane_line drawing.now.brush.screen.registers drawing.now.brush.screen.vram.now l) × (planes ≡ Beside → beside.now ≡ plane_line drawing.now.brush.screen.registers drawing.now.brush.screen.vram.now l) }
     ensures value { result ≡ cond due (note_at drawing.now.brush.screen.registers drawing.now.brush.screen.vram.now l) note }
     ensures line_after { line.new ≡ cond due (colours drawing.now.brush.screen.registers drawing.now.brush.screen.vram.now l) line.old }
 {
     if !due {
         return note;
     }
+    let Some(line) = line.as_mut_array() else {
+        unreachable!()
+    };
     bring_plane(planes, drawing, l, beside, line);
     finish_line(&drawing.brush, l, drawing.sets[l as usize], line)
 }

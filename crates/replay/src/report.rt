@@ -1,4 +1,4 @@
-// The line that reports a run.
+// The line that reports a run. (A slice and a place: see crates/pixel/src/origins.rt.)
 ghost use Rattle.std.specs.Prelude.{◌≡◌, ◌≤◌, length};
 ghost use Rattle.chip.specs.Lists.{put_at};
 ghost use Rattle.replay.specs.Report.{report_text};

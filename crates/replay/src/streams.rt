@@ -10,6 +10,7 @@ use chip::{Chip, Refusal};
 use text::put_refusal;
 
 // How many bytes go to standard output, and to standard error.
+// (The counts stand beside the two lent buffers for the same reason as a slice's place: see crates/pixel/src/origins.rt.)
 #[derive(Clone, Copy)]
 pub struct Written {
     pub output: usize,

@@ -2,19 +2,17 @@
 ghost use Rattle.std.specs.Prelude.{◌≡◌, ◌/◌, ◌%◌, get_or};
 ghost use Rattle.rows.specs.Rows.{Paints};
 ghost use Rattle.rows.specs.Stripes.{PatternWord};
-ghost use Rattle.words.specs.Words.{Masks};
 
 use crate::paint::paints;
 use chip::Screen;
-use words::{blend, masks};
+use words::{MaskTable, blend};
 
 // A screen, and the words that its cells are painted with: what each pattern byte masks, and the sixteen colours.
 #[derive(Clone, Copy)]
 pub struct Brush<'a> {
     pub screen: Screen<'a>,
-    pub masks: [u64; 256],
+    pub masks: MaskTable,
     pub paints: [u64; 16],
-    pub ghost masks_are: { Masks masks },
     pub ghost paints_are: { Paints screen.registers paints },
 }
 
@@ -25,7 +23,7 @@ impl<'a> Brush<'a> {
     {
         Brush {
             screen,
-            masks: masks(),
+            masks: MaskTable::new(),
             paints: paints(screen.registers),
         }
     }
@@ -34,7 +32,7 @@ impl<'a> Brush<'a> {
     pub fn pattern_word(&self, pattern: u8, one: u64, zero: u64) -> u64
         ensures { PatternWord pattern one zero result }
     {
-        blend(self.masks[pattern as usize], one, zero)
+        blend(self.masks.of(pattern), one, zero)
     }
 
     // The same in the two colours of a byte.

@@ -21,8 +21,9 @@ fn names_from<'a>(screen: Screen<'a>, place: usize, count: usize) -> &'a [u8]
 
 // The loops over the 32 cells of a row stay three: one function with a closure that paints a cell would lend it the part, and its
 // contract, which speaks of any such closure, would be longer than the loops.
-fn draw_graphics_one(brush: &Brush, row: usize, part: &mut [u8])
-    requires { (row < 24) × (length part.old ≡ 2048) }
+#[tactic(auto, using(crate::proofs::Laws::Cells::registers))]
+fn draw_graphics_one(brush: &Brush, row: usize, part: &mut [u8; 2048])
+    requires { row < 24 }
     ensures { part.new ≡ plane_row GraphicsI brush.now.screen.registers brush.now.screen.vram.now row }
 {
     let screen = brush.screen;
@@ -43,8 +44,9 @@ fn draw_graphics_one(brush: &Brush, row: usize, part: &mut [u8])
     }
 }
 
-fn draw_graphics_two(brush: &Brush, row: usize, part: &mut [u8])
-    requires { (row < 24) × (length part.old ≡ 2048) }
+#[tactic(auto, using(crate::proofs::Laws::Cells::registers))]
+fn draw_graphics_two(brush: &Brush, row: usize, part: &mut [u8; 2048])
+    requires { row < 24 }
     ensures { part.new ≡ plane_row GraphicsII brush.now.screen.registers brush.now.screen.vram.now row }
 {
     let screen = brush.screen;
@@ -57,9 +59,11 @@ fn draw_graphics_two(brush: &Brush, row: usize, part: &mut [u8])
     }
 }
 
-// The two bytes of a name that a row shows have four lines each.
-fn draw_multicolor(screen: Screen, row: usize, words: &[u64], part: &mut [u8])
-    requires { (row < 24) × ByteWords Multicolor screen.registers words.now × (length part.old ≡ 2048) }
+// The two bytes of a name that a row shows have four lines each. (The words are no part of the brush, since a line alone is drawn without
+// them; so what they are is asked in three functions.)
+#[tactic(auto, using(crate::proofs::Laws::Cells::registers))]
+fn draw_multicolor(screen: Screen, row: usize, words: &[u64; 256], part: &mut [u8; 2048])
+    requires { (row < 24) × ByteWords Multicolor screen.registers words.now }
     ensures { part.new ≡ plane_row Multicolor screen.entry.registers screen.entry.vram.now row }
 {
     let vram = screen.vram;
@@ -74,8 +78,9 @@ fn draw_multicolor(screen: Screen, row: usize, words: &[u64], part: &mut [u8])
 }
 
 // Cells of six columns are painted with eight, of which the next cell covers two, and the margin those of the last.
-fn draw_text(brush: &Brush, row: usize, words: &[u64], part: &mut [u8])
-    requires { (row < 24) × ByteWords Text brush.now.screen.registers words.now × (length part.old ≡ 2048) }
+#[tactic(auto, using(crate::proofs::Laws::Cells::registers))]
+fn draw_text(brush: &Brush, row: usize, words: &[u64; 256], part: &mut [u8; 2048])
+    requires { (row < 24) × ByteWords Text brush.now.screen.registers words.now }
     ensures { part.new ≡ plane_row Text brush.now.screen.registers brush.now.screen.vram.now row }
 {
     let screen = brush.screen;
@@ -91,8 +96,14 @@ fn draw_text(brush: &Brush, row: usize, words: &[u64], part: &mut [u8])
 }
 
 // The pattern plane over the backdrop on lines 8 * row to 8 * row + 7, which stand end to end in the lent part.
-pub fn draw_plane_row(mode: Mode, brush: &Brush, row: usize, words: &[u64], part: &mut [u8])
-    requires { (row < 24) × (length part.old ≡ 2048) × ByteWords mode brush.now.screen.registers words.now }
+pub fn draw_plane_row(
+    mode: Mode,
+    brush: &Brush,
+    row: usize,
+    words: &[u64; 256],
+    part: &mut [u8; 2048],
+)
+    requires { (row < 24) × ByteWords mode brush.now.screen.registers words.now }
     ensures { part.new ≡ plane_row mode brush.now.screen.registers brush.now.screen.vram.now row }
 {
     match mode {

@@ -1,5 +1,5 @@
 // The pattern plane of one line, a word of eight pixels for each cell.
-ghost use Rattle.std.specs.Prelude.{◌≡◌, ◌+◌, ◌*◌, ◌<◌, length};
+ghost use Rattle.std.specs.Prelude.{◌≡◌, ◌+◌, ◌*◌, ◌<◌};
 ghost use Rattle.chip.specs.Lists.{tabulate};
 ghost use Rattle.chip.specs.declared.mode.Mode.TheVariants.{Text};
 ghost use Rattle.planes.specs.Cells.{cells_in, cell_width, margin};
@@ -12,23 +12,23 @@ use planes::{behind_planes, cell_of, cell_width, cells_in, margin_of};
 use words::put_word;
 
 // The cells of a line, each painted with eight columns. Of a narrower cell's the next cell covers the last, or the margin does.
-fn draw_line_cells(mode: Mode, brush: &Brush, l: usize, line: &mut [u8])
+fn draw_line_cells(mode: Mode, brush: &Brush, l: usize, line: &mut [u8; 256])
     requires { (l < 192) × LineSettled line.old (plane_pixel mode brush.now.screen.registers brush.now.screen.vram.now l) (margin mode) }
     ensures { LineSettled line.new (plane_pixel mode brush.now.screen.registers brush.now.screen.vram.now l) (margin mode + cells_in mode * cell_width mode) }
 {
     let count = cells_in(mode);
     let width = cell_width(mode);
-    let mut at = margin_of(mode);
+    let margin = margin_of(mode);
     for i in 0..count {
         let cell = cell_of(mode, brush.screen, l, i);
         let word = brush.coloured_word(cell.pattern, cell.colours);
+        let at = margin + i * width;
         put_word(line, at, word);
-        at += width;
     }
 }
 
-fn draw_text_line(brush: &Brush, l: usize, line: &mut [u8])
-    requires { (l < 192) × (length line.old ≡ 256) }
+fn draw_text_line(brush: &Brush, l: usize, line: &mut [u8; 256])
+    requires { l < 192 }
     ensures { line.new ≡ tabulate 256 (plane_pixel Text brush.now.screen.registers brush.now.screen.vram.now l) }
 {
     let margin = brush.paints[0];
@@ -38,8 +38,8 @@ fn draw_text_line(brush: &Brush, l: usize, line: &mut [u8])
 }
 
 // The pattern plane of one line over the backdrop. Each mode is named where its cells are drawn, so that no cell asks for it.
-pub fn draw_plane_line(mode: Mode, brush: &Brush, l: usize, line: &mut [u8])
-    requires { (l < 192) × (length line.old ≡ 256) }
+pub fn draw_plane_line(mode: Mode, brush: &Brush, l: usize, line: &mut [u8; 256])
+    requires { l < 192 }
     ensures { line.new ≡ tabulate 256 (plane_pixel mode brush.now.screen.registers brush.now.screen.vram.now l) }
 {
     match mode {

@@ -1,17 +1,15 @@
 // The eight pixels of every byte, in the modes in which one byte decides a cell's.
-ghost use Rattle.std.specs.Prelude.{◌≡◌, true, ◌+◌, ◌*◌, ◌<◌, length};
-ghost use Rattle.chip.specs.State.{masked};
+ghost use Rattle.std.specs.Prelude.{◌+◌, ◌*◌, ◌<◌};
 ghost use Rattle.chip.specs.declared.mode.Mode.TheVariants.{Multicolor, Text};
 ghost use Rattle.rows.specs.Rows.{ByteWords, Paints};
 ghost use Rattle.rows.specs.Shown.{Filled, block_byte};
-ghost use Rattle.words.specs.Words.{Masks};
 
 use chip::Mode;
-use words::blend;
+use words::{MaskTable, blend};
 
 // Every pattern byte in the two colours of register 7.
-fn text_words(r: [u8; 8], masks: &[u64], paints: &[u64]) -> [u64; 256]
-    requires { (masked r ≡ true) × Masks masks.now × Paints r paints.now }
+fn text_words(r: [u8; 8], masks: &MaskTable, paints: &[u64; 16]) -> [u64; 256]
+    requires { Paints r paints.now }
     ensures { ByteWords Text r result }
 {
     let both = r[7] as usize;
@@ -19,17 +17,17 @@ fn text_words(r: [u8; 8], masks: &[u64], paints: &[u64]) -> [u64; 256]
     let zero = paints[both % 16];
     let mut words = [0u64; 256];
     for b in 0..256 {
-        words[b] = blend(masks[b], one, zero);
+        words[b] = blend(masks.of(b as u8), one, zero);
     }
     words
 }
 
 // The bytes with one high nibble: four columns of its colour, and four of the low nibble's.
-fn add_blocks(words: &mut [u64], high: usize, masks: &[u64], paints: &[u64])
-    requires { (high < 16) × Masks masks.now × (length paints.now ≡ 16) × Filled words.old (block_byte paints.now) (16 * high) }
+fn add_blocks(words: &mut [u64; 256], high: usize, masks: &MaskTable, paints: &[u64; 16])
+    requires { (high < 16) × Filled words.old (block_byte paints.now) (16 * high) }
     ensures { Filled words.new (block_byte paints.now) (16 * high + 16) }
 {
-    let mask = masks[0xF0];
+    let mask = masks.of(0xF0);
     let left = paints[high];
     let first = 16 * high;
     for low in 0..16 {
@@ -37,8 +35,8 @@ fn add_blocks(words: &mut [u64], high: usize, masks: &[u64], paints: &[u64])
     }
 }
 
-fn multicolor_words(r: [u8; 8], masks: &[u64], paints: &[u64]) -> [u64; 256]
-    requires { Masks masks.now × Paints r paints.now }
+fn multicolor_words(r: [u8; 8], masks: &MaskTable, paints: &[u64; 16]) -> [u64; 256]
+    requires { Paints r paints.now }
     ensures { ByteWords Multicolor r result }
 {
     let mut words = [0u64; 256];
@@ -48,9 +46,11 @@ fn multicolor_words(r: [u8; 8], masks: &[u64], paints: &[u64]) -> [u64; 256]
     words
 }
 
-// Worth making where many rows are drawn. In other modes the words are not looked at.
-pub fn byte_words(mode: Mode, r: [u8; 8], masks: &[u64], paints: &[u64]) -> [u64; 256]
-    requires { (masked r ≡ true) × Masks masks.now × Paints r paints.now }
+// Worth making where many rows are drawn. In other modes the words are not looked at. No brush is taken, since it would ask for VRAM,
+// of which nothing is read here, and no struct of registers and paints, since a brush has the registers in its screen; so what the paints
+// are is said in three places.
+pub fn byte_words(mode: Mode, r: [u8; 8], masks: &MaskTable, paints: &[u64; 16]) -> [u64; 256]
+    requires { Paints r paints.now }
     ensures { ByteWords mode r result }
 {
     match mode {

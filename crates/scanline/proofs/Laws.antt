@@ -1,4 +1,5 @@
 -- Laws about the definitions of specs/.
 pub mod Line
 pub mod Ready
+pub mod Tests
 pub mod LineDraws

@@ -7,6 +7,7 @@ use crate::note::status_after;
 use chip::{Answer, Chip, Refusal, Screen};
 
 // Draws one line into a lent slice, and the codes of its pixels' origins into another. The line's note updates status.
+#[tactic(auto, using(crate::proofs::Laws::Tests::tests))]
 pub fn draw_line(
     mut chip: Chip,
     vram: &[u8],
@@ -18,15 +19,15 @@ pub fn draw_line(
     ensures line_after { line.new ≡ calls.draw_line_line chip vram.now line.old origins.old number }
     ensures origins_after { origins.new ≡ calls.draw_line_origins chip vram.now line.old origins.old number }
 {
-    if vram.len() != 16384 {
+    let Some(vram) = vram.as_array::<16384>() else {
         return chip.refused(Refusal::VramLength);
-    }
-    if line.len() != 256 {
+    };
+    let Some(line) = line.as_mut_array::<256>() else {
         return chip.refused(Refusal::SliceLength);
-    }
-    if origins.len() != 256 {
+    };
+    let Some(origins) = origins.as_mut_array::<256>() else {
         return chip.refused(Refusal::SliceLength);
-    }
+    };
     if !chip.is_well_formed() {
         return chip.refused(Refusal::IllFormed);
     }

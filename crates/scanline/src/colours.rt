@@ -8,16 +8,17 @@ use chip::{Answer, Chip, Refusal, Screen};
 
 // The tests stand here again: `draw_line` has that of the slice for origins in their midst, so a function of both calls would need its
 // length as a parameter, with one made up here.
+#[tactic(auto, using(crate::proofs::Laws::Tests::tests))]
 pub fn draw_colours(mut chip: Chip, vram: &[u8], line: &mut [u8], number: u32) -> Answer
     ensures value { result ≡ calls.draw_colours chip vram.now line.old number }
     ensures line_after { line.new ≡ calls.draw_colours_line chip vram.now line.old number }
 {
-    if vram.len() != 16384 {
+    let Some(vram) = vram.as_array::<16384>() else {
         return chip.refused(Refusal::VramLength);
-    }
-    if line.len() != 256 {
+    };
+    let Some(line) = line.as_mut_array::<256>() else {
         return chip.refused(Refusal::SliceLength);
-    }
+    };
     if !chip.is_well_formed() {
         return chip.refused(Refusal::IllFormed);
     }

@@ -1,5 +1,5 @@
 // Drawing a line: the pattern plane, then the sprites over it.
-ghost use Rattle.std.specs.Prelude.{◌≡◌, ◌<◌, length, get_or};
+ghost use Rattle.std.specs.Prelude.{◌≡◌, ◌<◌, get_or};
 ghost use Rattle.chip.specs.Lists.{tabulate};
 ghost use Rattle.fetches.specs.Fetch.{value};
 ghost use Rattle.planes.specs.Pixel.{first_non_zero};
@@ -21,20 +21,19 @@ pub fn has_sprites(mode: Mode) -> bool
 }
 
 // The sprites of a mode that has them, over the line. Answers the note.
-fn draw_sprites(screen: Screen, l: u8, line: &mut [u8]) -> u8
-    requires { length line.old ≡ 256 }
+fn draw_sprites(screen: Screen, l: u8, line: &mut [u8; 256]) -> u8
     ensures value { let f = value (scan_of screen.entry.registers l) screen.entry.vram.now in result ≡ note_by (fifth_of f.ended) (coincidence screen.entry.registers f.sprites) }
     ensures line_after { let f = value (scan_of screen.entry.registers l) screen.entry.vram.now in line.new ≡ tabulate 256 (λ x. first_non_zero (sprite_colours screen.entry.registers f.sprites (visible x)) (get_or line.old x 0)) }
 {
     let scan = sprites::scan_of(screen, l);
-    let met = sprites::draw_sprites(line, screen.registers, scan);
+    let met = sprites::draw_sprites(line, scan);
     note_of(scan.ended, met)
 }
 
 // Draws line l, and answers its note. The draws with origins, below, are functions of their own: with `origins: Option<&mut [u8]>` in
 // these, each clause on origins would have two cases, and each body two more matches.
-pub fn draw_row(screen: Screen, l: u8, line: &mut [u8]) -> u8
-    requires { (l < 192) × (length line.old ≡ 256) }
+pub fn draw_row(screen: Screen, l: u8, line: &mut [u8; 256]) -> u8
+    requires { l < 192 }
     ensures value { result ≡ calls.note_at screen.entry.registers screen.entry.vram.now l }
     ensures line_after { line.new ≡ calls.colours screen.entry.registers screen.entry.vram.now l }
 {
@@ -47,21 +46,30 @@ pub fn draw_row(screen: Screen, l: u8, line: &mut [u8]) -> u8
 }
 
 // The sprites over the line, and their numbers over its origins. One scan is for both.
-fn draw_sprites_with_origins(screen: Screen, l: u8, line: &mut [u8], origins: &mut [u8]) -> u8
-    requires { (length line.old ≡ 256) × (length origins.old ≡ 256) }
+fn draw_sprites_with_origins(
+    screen: Screen,
+    l: u8,
+    line: &mut [u8; 256],
+    origins: &mut [u8; 256],
+) -> u8
     ensures value { let f = value (scan_of screen.entry.registers l) screen.entry.vram.now in result ≡ note_by (fifth_of f.ended) (coincidence screen.entry.registers f.sprites) }
     ensures line_after { let f = value (scan_of screen.entry.registers l) screen.entry.vram.now in line.new ≡ tabulate 256 (λ x. first_non_zero (sprite_colours screen.entry.registers f.sprites (visible x)) (get_or line.old x 0)) }
     ensures origins_after { let f = value (scan_of screen.entry.registers l) screen.entry.vram.now in origins.new ≡ tabulate 256 (λ x. first_number (numbered_colours screen.entry.registers f.sprites (visible x)) (get_or origins.old x 0)) }
 {
     let scan = sprites::scan_of(screen, l);
-    sprites::draw_numbers(origins, screen.registers, scan);
-    let met = sprites::draw_sprites(line, screen.registers, scan);
+    sprites::draw_numbers(origins, scan);
+    let met = sprites::draw_sprites(line, scan);
     note_of(scan.ended, met)
 }
 
 // Draws line l with its origins, and answers its note.
-pub fn draw_row_with_origins(screen: Screen, l: u8, line: &mut [u8], origins: &mut [u8]) -> u8
-    requires { (l < 192) × (length line.old ≡ 256) × (length origins.old ≡ 256) }
+pub fn draw_row_with_origins(
+    screen: Screen,
+    l: u8,
+    line: &mut [u8; 256],
+    origins: &mut [u8; 256],
+) -> u8
+    requires { l < 192 }
     ensures value { result ≡ calls.note_at screen.entry.registers screen.entry.vram.now l }
     ensures line_after { line.new ≡ calls.colours screen.entry.registers screen.entry.vram.now l }
     ensures origins_after { origins.new ≡ calls.origins screen.entry.registers screen.entry.vram.now l }

@@ -1,4 +1,5 @@
 // A line: its pattern plane, its sprites and its note; the call that draws it, with its origins or without.
+// Lines and columns are plain numbers with their bounds in `requires` (see `chip::Screen`).
 #![tactic(auto)]
 
 mod call;

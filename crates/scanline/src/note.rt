@@ -1,4 +1,5 @@
-// A line's note, and status after it.
+// A line's note, and status after it. A note is a byte, 32 for no fifth sprite and 64 more for coincidence: so it stands in the slice of
+// notes that a caller lends.
 ghost use Rattle.std.specs.Prelude.{◌≡◌, ◌≤◌};
 ghost use Rattle.sprites.specs.Scan.{fifth_of};
 ghost use Rattle.scanline.specs.Notes.{note_by, latched, with_fifth, with_coincidence, status_after};

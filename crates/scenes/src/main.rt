@@ -2,6 +2,7 @@
 // but for their numbers: a table of them with one loop would hide which registers and bytes a line is drawn from.)
 #![tactic(auto)]
 
+mod fresh;
 mod modes;
 mod print;
 mod put;

@@ -1,4 +1,5 @@
 // The four modes over VRAM that differs from place to place, blank lines, and external video.
+use crate::fresh::on_fresh;
 use crate::print::show;
 use crate::put::{mix, put};
 use std::io::Stdout;
@@ -47,11 +48,6 @@ fn without_sprites(out: Stdout, vram: &mut [u8]) {
     put(vram, 0x3000, &[0xD0]);
     graphics(out, vram);
     others(out, vram);
-}
-
-fn show_without_sprites(out: Stdout) {
-    let mut vram = [0u8; 16384];
-    without_sprites(out, &mut vram);
 }
 
 fn each_mode(out: Stdout, vram: &[u8]) {
@@ -131,11 +127,6 @@ fn with_sprites(out: Stdout, vram: &mut [u8]) {
     put(vram, 0x300C, &[94, 200, 3, 0x06, 97, 120, 4, 0x09, 0xD0]);
     each_mode(out, vram);
     blank(out, vram);
-}
-
-fn show_with_sprites(out: Stdout) {
-    let mut vram = [0u8; 16384];
-    with_sprites(out, &mut vram);
 }
 
 // All planes 0.
@@ -219,13 +210,8 @@ fn no_colour(out: Stdout, vram: &mut [u8]) {
     colour_0(out, vram);
 }
 
-fn show_no_colour(out: Stdout) {
-    let mut vram = [0u8; 16384];
-    no_colour(out, &mut vram);
-}
-
 pub fn show_all(out: Stdout) {
-    show_without_sprites(out);
-    show_with_sprites(out);
-    show_no_colour(out);
+    on_fresh(out, without_sprites);
+    on_fresh(out, with_sprites);
+    on_fresh(out, no_colour);
 }

@@ -1,4 +1,5 @@
 // Sprites over a backdrop of colour 1: sizes, edges, order, the fifth sprite and coincidence.
+use crate::fresh::on_fresh;
 use crate::print::show;
 use crate::put::{put, repeat};
 use std::io::Stdout;
@@ -36,23 +37,13 @@ fn patterns(vram: &mut [u8]) {
     repeat(vram, 0x0840, 32, 0xFF);
 }
 
-fn sprites_in(
-    out: Stdout,
-    vram: &mut [u8],
-    label: &[u8],
-    attributes: &[u8],
-    r: [u8; 8],
-    number: u32,
-) {
-    patterns(vram);
-    put(vram, 0x0300, attributes);
-    show(out, label, r, 0, vram, number);
-}
-
 // A line with these attributes.
 fn sprites(out: Stdout, label: &[u8], attributes: &[u8], r: [u8; 8], number: u32) {
-    let mut vram = [0u8; 16384];
-    sprites_in(out, &mut vram, label, attributes, r, number);
+    on_fresh(out, |out, vram| {
+        patterns(vram);
+        put(vram, 0x0300, attributes);
+        show(out, label, r, 0, vram, number);
+    });
 }
 
 // A sprite from line 50 on, at column 100. Its name is 5; a large one has patterns 4 to 7.
@@ -178,24 +169,13 @@ fn first_four(vram: &mut [u8], fourth_x: u8) {
     put(vram, 0x0324, &[46, fourth_x, 8, 0x05]);
 }
 
-fn five_in(
-    out: Stdout,
-    vram: &mut [u8],
-    label: &[u8],
-    fourth_x: u8,
-    fifth_x: u8,
-    status: u8,
-    number: u32,
-) {
-    patterns(vram);
-    first_four(vram, fourth_x);
-    put(vram, 0x0330, &[45, fifth_x, 8, 0x06, 0xD0]);
-    show(out, label, graphics(0), status, vram, number);
-}
-
 fn five(out: Stdout, label: &[u8], fourth_x: u8, fifth_x: u8, status: u8, number: u32) {
-    let mut vram = [0u8; 16384];
-    five_in(out, &mut vram, label, fourth_x, fifth_x, status, number);
+    on_fresh(out, |out, vram| {
+        patterns(vram);
+        first_four(vram, fourth_x);
+        put(vram, 0x0330, &[45, fifth_x, 8, 0x06, 0xD0]);
+        show(out, label, graphics(0), status, vram, number);
+    });
 }
 
 fn fifth(out: Stdout) {
@@ -217,11 +197,6 @@ fn all_32(out: Stdout, vram: &mut [u8]) {
     show(out, b"thirty-one sprites", graphics(0), 0, vram, 151);
 }
 
-fn show_all_32(out: Stdout) {
-    let mut vram = [0u8; 16384];
-    all_32(out, &mut vram);
-}
-
 pub fn show_all(out: Stdout) {
     small_sizes(out);
     large_sizes(out);
@@ -231,5 +206,5 @@ pub fn show_all(out: Stdout) {
     beside(out);
     terminator(out);
     fifth(out);
-    show_all_32(out);
+    on_fresh(out, all_32);
 }

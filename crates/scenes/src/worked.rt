@@ -1,4 +1,5 @@
 // The manual's (M) and the guide's (G) worked set-ups.
+use crate::fresh::on_fresh;
 use crate::print::show;
 use crate::put::{count_up, put, repeat};
 use std::io::Stdout;
@@ -47,21 +48,11 @@ fn zero_vram(out: Stdout, vram: &[u8]) {
     show(out, b"G 6-2, zero VRAM", g_6_2(), 0, vram, 191);
 }
 
-fn show_zero_vram(out: Stdout) {
-    let vram = [0u8; 16384];
-    zero_vram(out, &vram);
-}
-
 // The terminator at the attribute base.
 fn no_sprites(out: Stdout, vram: &mut [u8]) {
     put(vram, 0x1000, &[0xD0]);
     show(out, b"G 6-1, no sprites", g_6_1(), 0, vram, 1);
     show(out, b"G 6-3, no sprites", g_6_3(), 0, vram, 1);
-}
-
-fn show_no_sprites(out: Stdout) {
-    let mut vram = [0u8; 16384];
-    no_sprites(out, &mut vram);
 }
 
 // Names, patterns, colour bytes and one sprite, each from its table's base on.
@@ -88,15 +79,12 @@ fn put_all(
     put_sprite(vram, attributes, sprites);
 }
 
-fn bases_in(out: Stdout, vram: &mut [u8], label: &[u8], r: [u8; 8], bases: [u16; 5]) {
-    put_all(vram, bases[0], bases[1], bases[2], bases[3], bases[4]);
-    show(out, label, r, 0, vram, 0);
-}
-
 // Names, colours, patterns, attributes, sprite patterns.
 fn bases(out: Stdout, label: &[u8], r: [u8; 8], bases: [u16; 5]) {
-    let mut vram = [0u8; 16384];
-    bases_in(out, &mut vram, label, r, bases);
+    on_fresh(out, |out, vram| {
+        put_all(vram, bases[0], bases[1], bases[2], bases[3], bases[4]);
+        show(out, label, r, 0, vram, 0);
+    });
 }
 
 fn show_bases(out: Stdout) {
@@ -168,11 +156,6 @@ fn figure_2_13(out: Stdout, vram: &mut [u8]) {
     show_eight(out, b"M Fig. 2-13", g_6_2(), vram);
 }
 
-fn show_figure_2_13(out: Stdout) {
-    let mut vram = [0u8; 16384];
-    figure_2_13(out, &mut vram);
-}
-
 // M Fig. 2-11 in cell 0 of Text, in colours 7 and 1.
 fn text_7_on_1() -> Registers {
     [0x00, 0xD0, 0x02, 0x00, 0x00, 0x20, 0x00, 0x71]
@@ -188,23 +171,15 @@ fn figure_2_11(out: Stdout, vram: &mut [u8]) {
     show_eight(out, b"M Fig. 2-11", text_7_on_1(), vram);
 }
 
-fn show_figure_2_11(out: Stdout) {
-    let mut vram = [0u8; 16384];
-    figure_2_11(out, &mut vram);
-}
-
 // G's bitmap: names that count up, and one pixel of colour 4 on 15.
-fn bitmap_in(out: Stdout, vram: &mut [u8], label: &[u8], at: u16, byte: u8, number: u32) {
-    count_up(vram, 0x3800, 768);
-    repeat(vram, 0x2000, 0x1800, 0x4F);
-    put(vram, 0x3B00, &[0xD0]);
-    put(vram, at, &[byte]);
-    show(out, label, g_6_2(), 0, vram, number);
-}
-
 fn bitmap(out: Stdout, label: &[u8], at: u16, byte: u8, number: u32) {
-    let mut vram = [0u8; 16384];
-    bitmap_in(out, &mut vram, label, at, byte, number);
+    on_fresh(out, |out, vram| {
+        count_up(vram, 0x3800, 768);
+        repeat(vram, 0x2000, 0x1800, 0x4F);
+        put(vram, 0x3B00, &[0xD0]);
+        put(vram, at, &[byte]);
+        show(out, label, g_6_2(), 0, vram, number);
+    });
 }
 
 fn show_bitmaps(out: Stdout) {
@@ -245,11 +220,6 @@ fn multicolor(out: Stdout, vram: &mut [u8]) {
     multicolor_names(vram);
     multicolor_bytes(vram);
     multicolor_lines(out, vram);
-}
-
-fn show_multicolor(out: Stdout) {
-    let mut vram = [0u8; 16384];
-    multicolor(out, &mut vram);
 }
 
 // G Table 10-1: the spaceman, of two sprites over each other.
@@ -323,18 +293,13 @@ fn spaceman(out: Stdout, vram: &mut [u8]) {
     spaceman_lines(out, vram);
 }
 
-fn show_spaceman(out: Stdout) {
-    let mut vram = [0u8; 16384];
-    spaceman(out, &mut vram);
-}
-
 pub fn show_all(out: Stdout) {
-    show_zero_vram(out);
-    show_no_sprites(out);
+    on_fresh(out, |out, vram| zero_vram(out, vram));
+    on_fresh(out, no_sprites);
     show_bases(out);
-    show_figure_2_13(out);
-    show_figure_2_11(out);
+    on_fresh(out, figure_2_13);
+    on_fresh(out, figure_2_11);
     show_bitmaps(out);
-    show_multicolor(out);
-    show_spaceman(out);
+    on_fresh(out, multicolor);
+    on_fresh(out, spaceman);
 }

@@ -4,7 +4,6 @@ use Rattle.chip.specs.Bits.{bit}
 use Rattle.chip.specs.Ranges.{all_below}
 use Rattle.sprites.specs.Shape.{covers}
 use Rattle.sprites.specs.Scan.{attribute_address, Found, fifth_of}
-use Rattle.sprites.specs.Scanned.{Held}
 use Rattle.sprites.specs.declared.scan.Scan.{Scan}
 
 -- Sprite n's Y.
@@ -26,6 +25,6 @@ pub record Sets (r vram sets : List ℕ) : Type 0 where
 
 -- A scan's result as it is found by a set, which does not tell how a scan without a fifth sprite ended.
 pub record FoundBySet (r : List ℕ) (s : Scan) (f : Found) : Type 0 where
-  pub held : Held r s
+  pub registers : s.registers ≡ r
   pub sprites : take s.drawn s.sprites ≡ f.sprites
   pub fifth : fifth_of s.ended ≡ fifth_of f.ended

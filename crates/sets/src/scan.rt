@@ -6,6 +6,8 @@ ghost use Rattle.sets.specs.Sets.{IsSet, FoundBySet};
 use chip::Screen;
 use sprites::{Ended, NO_SPRITE, Scan, attribute_address, sprite_of};
 
+#[tactic(auto, using(sprites::proofs::Laws::Bounds::addresses, crate::proofs::Laws::Bits::lowest_small))]
+// As in `sprites::scan_of`, the loop leaves by `break` with how the scan ended; it goes from one set bit to the next.
 pub fn scan_by_set(screen: Screen, l: u8, set: u32) -> Scan
     requires { IsSet screen.registers screen.vram.now l set }
     ensures { FoundBySet screen.entry.registers result (value (scan_of screen.entry.registers l) screen.entry.vram.now) }
@@ -28,6 +30,7 @@ pub fn scan_by_set(screen: Screen, l: u8, set: u32) -> Scan
         left &= left - 1;
     };
     Scan {
+        registers: screen.registers,
         sprites,
         drawn,
         ended,

@@ -19,10 +19,9 @@ fn add_run(part: &mut [u32], one: u32)
 
 // Puts sprite n, which stands at y, into the set of each line that it covers, line by line: they may go over the bottom edge, to
 // the top.
-fn add_by_lines(sets: &mut [u32], r: [u8; 8], y: u8, n: u32)
-    requires { (length sets.old ≡ 192) × (n < 32) }
-    ensures sets_len { length sets.new ≡ 192 }
-    ensures by_index { (l : ℕ) → l < 192 → slice_index sets.new l ≡ (if shape.covers r l y then bits.set_bit n (slice_index sets.old l) else slice_index sets.old l) }
+fn add_by_lines(sets: &mut [u32; 192], r: [u8; 8], y: u8, n: u32)
+    requires { n < 32 }
+    ensures { (l : ℕ) → l < 192 → slice_index sets.new l ≡ (if shape.covers r l y then bits.set_bit n (slice_index sets.old l) else slice_index sets.old l) }
 {
     let one = 1u32 << n;
     let first = y.wrapping_add(1);
@@ -36,10 +35,9 @@ fn add_by_lines(sets: &mut [u32], r: [u8; 8], y: u8, n: u32)
 
 // Puts sprite n, which stands at y, into the set of each line that it covers. They begin below y, and are mostly one run of
 // lines, which needs no test of each.
-fn add_sprite(sets: &mut [u32], r: [u8; 8], y: u8, n: u32)
-    requires { (length sets.old ≡ 192) × (n < 32) }
-    ensures sets_len { length sets.new ≡ 192 }
-    ensures by_index { (l : ℕ) → l < 192 → slice_index sets.new l ≡ (if shape.covers r l y then bits.set_bit n (slice_index sets.old l) else slice_index sets.old l) }
+fn add_sprite(sets: &mut [u32; 192], r: [u8; 8], y: u8, n: u32)
+    requires { n < 32 }
+    ensures { (l : ℕ) → l < 192 → slice_index sets.new l ≡ (if shape.covers r l y then bits.set_bit n (slice_index sets.old l) else slice_index sets.old l) }
 {
     let first = y.wrapping_add(1) as usize;
     let height = side(r);
@@ -50,6 +48,7 @@ fn add_sprite(sets: &mut [u32], r: [u8; 8], y: u8, n: u32)
     }
 }
 
+#[tactic(auto, using(sprites::proofs::Laws::Bounds::addresses, crate::proofs::Laws::Sets::ends))]
 pub fn sets_of(screen: Screen) -> [u32; 192]
     ensures { Sets screen.entry.registers screen.entry.vram.now result }
 {

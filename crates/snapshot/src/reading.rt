@@ -7,6 +7,7 @@ use crate::trailer::{points_back, sum_is_right};
 use chip::{Answer, Chip, Refusal};
 
 // The state given is replaced, and so not tested. VRAM is written only once all tests have passed.
+#[tactic(auto, using(crate::proofs::Laws::Parts::parts))]
 pub fn read(chip: Chip, vram: &mut [u8], snapshot: &[u8]) -> Answer
     ensures value { result ≡ read_snapshot chip vram.old snapshot.now }
     ensures vram_after { vram.new ≡ read_vram vram.old snapshot.now }
@@ -14,9 +15,9 @@ pub fn read(chip: Chip, vram: &mut [u8], snapshot: &[u8]) -> Answer
     if vram.len() != 16384 {
         return chip.refused(Refusal::VramLength);
     }
-    if snapshot.len() != 16406 {
+    let Some(snapshot) = snapshot.as_array::<16406>() else {
         return chip.refused(Refusal::SnapshotLength);
-    }
+    };
     if !points_back(snapshot) {
         return chip.refused(Refusal::Trailer);
     }

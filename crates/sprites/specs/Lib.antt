@@ -2,6 +2,6 @@
 pub mod Shape
 pub mod Scan
 pub mod Pixels
-pub mod Scanned
+pub mod Held
 pub mod Rows
 pub mod Codes

@@ -21,6 +21,7 @@ pub fn end_visible(r: [u8; 8], s: Sprite) -> usize
 }
 
 // Whether the sprite's bit at column c, one of its own, is set.
+#[tactic(auto, using(crate::proofs::Laws::Columns::columns))]
 pub fn bit_at(r: [u8; 8], s: Sprite, c: usize) -> bool
     requires { (s.first ≤ c) × (c < s.first + shape.side r) }
     ensures { result ≡ hits r s c }

@@ -1,4 +1,5 @@
 // The sprites of a line: the scan of the attribute table, the pixels of the drawn ones, and their coincidence.
+// Lines, columns and sprites are plain numbers with their bounds in `requires` (see `chip::Screen`).
 #![tactic(auto)]
 
 mod column;

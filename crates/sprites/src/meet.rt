@@ -4,14 +4,16 @@ ghost use Rattle.std.specs.Prelude.{◌≡◌, ◌+◌, ◌*◌, ◌≤◌, ◌&
 ghost use Rattle.chip.specs.Ranges.{any_below};
 ghost use Rattle.sprites.specs.Pixels.{hits, any_hits, reach};
 ghost use Rattle.sprites.specs.Rows.{RowFrom};
-ghost use Rattle.sprites.specs.Scanned.{AsRead, Held};
+ghost use Rattle.sprites.specs.Held.{AsRead};
 ghost use Rattle.sprites.specs.Shape.{bit_width};
 
 use crate::scan::Scan;
 use crate::shape::{is_magnified, scaled};
 use crate::sprite::Sprite;
 
-// The row from column c on, which is not left of the sprite.
+// The row from column c on, which is not left of the sprite. A sprite does not hold the registers that it was read under, hence
+// `AsRead`: with them in each, a scan would hold them four times.
+#[tactic(auto, using(crate::proofs::Laws::Rows::rows))]
 fn row_from(r: [u8; 8], s: Sprite, c: u16) -> u16
     requires { AsRead r s × (s.first ≤ c) }
     ensures { RowFrom r s c result }
@@ -39,11 +41,11 @@ fn two_meet(r: [u8; 8], a: Sprite, b: Sprite) -> bool
 }
 
 // Whether a sprite meets one of those that were found, from place k on.
-pub fn meets_one(r: [u8; 8], s: Sprite, scan: Scan, k: usize) -> bool
-    requires { AsRead r s × Held r scan × (k ≤ scan.drawn) }
-    ensures { result ≡ any_below reach (λ c. hits r s c && any_hits r (drop k (take scan.drawn scan.sprites)) c) }
+pub fn meets_one(s: Sprite, scan: Scan, k: usize) -> bool
+    requires { AsRead scan.registers s × (k ≤ scan.drawn) }
+    ensures { result ≡ any_below reach (λ c. hits scan.registers s c && any_hits scan.registers (drop k (take scan.drawn scan.sprites)) c) }
 {
     scan.sprites[k..scan.drawn]
         .iter()
-        .any(|t| two_meet(r, s, *t))
+        .any(|t| two_meet(scan.registers, s, *t))
 }

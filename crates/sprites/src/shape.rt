@@ -5,6 +5,7 @@ ghost use Rattle.sprites.specs.Shape as shape;
 
 use chip::bit;
 
+// Two functions for two bits of register 1, as `large_sprites` and `magnified` are two definitions.
 pub fn is_large(r: [u8; 8]) -> bool
     ensures { result ≡ large_sprites r }
 {

@@ -5,7 +5,7 @@ ghost use Rattle.chip.specs.State.{masked};
 ghost use Rattle.fetches.specs.Fetch.{value};
 ghost use Rattle.sprites.specs.Shape.{covers};
 ghost use Rattle.sprites.specs.Scan as scan;
-ghost use Rattle.sprites.specs.Scanned.{AsRead};
+ghost use Rattle.sprites.specs.Held.{AsRead};
 
 use crate::shape::{is_large, is_magnified, row_offset, scaled};
 use chip::{Screen, bit};
@@ -45,10 +45,12 @@ fn name_of(r: [u8; 8], name: u8) -> u8
 }
 
 // The pattern byte of a name on line l, for a sprite at y that covers the line.
-pub fn sprite_pattern_address(r: [u8; 8], l: u8, y: u8, name: u8) -> usize
-    requires { (masked r ≡ true) × (covers r l y ≡ true) }
-    ensures { result ≡ scan.sprite_pattern_address r l y name }
+#[tactic(auto, unfolding(crate::specs::Scan::sprite_pattern_address))]
+pub fn sprite_pattern_address(screen: Screen, l: u8, y: u8, name: u8) -> usize
+    requires { covers screen.registers l y ≡ true }
+    ensures { result ≡ scan.sprite_pattern_address screen.entry.registers l y name }
 {
+    let r = screen.registers;
     let row = scaled(is_magnified(r), row_offset(l, y) as u16);
     r[6] as usize * 2048 + (8 * name_of(r, name) as usize + row as usize)
 }
@@ -72,7 +74,9 @@ fn sprite_by(n: usize, x: u8, c: u8, left: u8, right: u8) -> Sprite
     }
 }
 
-// What is read of sprite n, which covers line l.
+// What is read of sprite n, which covers line l. (That it does is asked in three functions: a struct of line and Y
+// would be made anew for each call.)
+#[tactic(auto, using(crate::proofs::Laws::Bounds::addresses, crate::proofs::Laws::Read::as_read), unfolding(fetches::specs::Fetch::value, crate::specs::Scan::sprite_of))]
 pub fn sprite_of(screen: Screen, l: u8, y: u8, n: usize) -> Sprite
     requires { (covers screen.registers l y ≡ true) × (n < 32) }
     ensures value { result ≡ value (scan.sprite_of screen.entry.registers l n y) screen.entry.vram.now }
@@ -83,7 +87,7 @@ pub fn sprite_of(screen: Screen, l: u8, y: u8, n: usize) -> Sprite
     let x = vram[attribute_address(r, n, 1)];
     let name = vram[attribute_address(r, n, 2)];
     let c = vram[attribute_address(r, n, 3)];
-    let at = sprite_pattern_address(r, l, y, name);
+    let at = sprite_pattern_address(screen, l, y, name);
     let left = vram[at];
     let right = if is_large(r) { vram[at + 16] } else { 0 };
     sprite_by(n, x, c, left, right)

@@ -1,4 +1,5 @@
 // The text that shows a snapshot: what a file is answered with, piece by piece, into a lent slice.
+// Lines are plain numbers with their bounds in `requires` (see `chip::Screen`).
 #![tactic(auto)]
 
 mod numbers;

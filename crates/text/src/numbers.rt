@@ -1,5 +1,6 @@
-// Numbers put into a slice from a place on, as characters. Each answers the place behind them. The digits are made here, since
-// `write!` promises its bytes only where it succeeds, and into a lent slice nothing says that it does.
+// Numbers put into a slice from a place on, as characters. Each answers the place behind them. The digits are made here: nothing
+// says that `write!` into a lent slice succeeds. A `std::io::Cursor` over the slice could be written to without a heap, but each
+// promise would speak of its position and of what is behind it as well: no plainer.
 ghost use Rattle.std.specs.Prelude.{◌≡◌, ◌+◌, ◌≤◌, ◌<◌, length};
 ghost use Rattle.chip.specs.Lists.{put_at};
 ghost use Rattle.text.specs.Numbers.{decimal, three_digits, long_decimal, hex_digit, two_hex};

@@ -1,4 +1,4 @@
-// A range of equal neighbouring lines.
+// A range of equal neighbouring lines. (A slice and a place: see numbers.rt.)
 ghost use Rattle.std.specs.Prelude.{◌≡◌, ◌≤◌, length};
 ghost use Rattle.chip.specs.Lists.{put_at};
 ghost use Rattle.text.specs.Runs as join;
@@ -32,8 +32,7 @@ fn put_bounds(out: &mut [u8], first: u8, last: u8) -> usize
 
 // The text of lines first to last, each with these colours.
 #[tactic(auto, using(crate::proofs::Laws::Numbers::lengths, crate::proofs::Laws::Runs::length_runs), unfolding(crate::specs::Lines::range_text))]
-pub fn put_range(out: &mut [u8], first: u8, last: u8, range: &[u8]) -> usize
-    requires { (length range.now ≡ 256) × (2048 ≤ length out.old) }
+pub fn put_range(out: &mut [u8; 2048], first: u8, last: u8, range: &[u8; 256]) -> usize
     ensures value { result ≡ length (range_text first last range.now) }
     ensures out_after { out.new ≡ put_at 0 (range_text first last range.now) out.old }
 {

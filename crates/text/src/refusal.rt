@@ -1,4 +1,4 @@
-// The line of a refusal.
+// The line of a refusal. (A slice and a place: see numbers.rt.)
 ghost use Rattle.std.specs.Prelude.{◌≡◌, ◌≤◌, length};
 ghost use Rattle.chip.specs.Lists.{put_at};
 ghost use Rattle.chip.specs.Refusals.{refusal_number};
@@ -29,6 +29,7 @@ pub fn put_refusal(out: &mut [u8], refusal: Refusal) -> usize
     put_refused(out, u8::from(refusal))
 }
 
+// Where it fits. (It takes a number and no Refusal: its clause speaks of every number, as `refused_written` does.)
 #[tactic(auto, unfolding(crate::specs::Calls::refused_written))]
 pub fn refusal_line(number: u8, out: &mut [u8]) -> usize
     ensures value { result ≡ length (refused_written number out.old) }

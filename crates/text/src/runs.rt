@@ -1,4 +1,4 @@
-// The longest runs of a line.
+// The longest runs of a line. (A slice and a place: see numbers.rt.)
 ghost use Rattle.std.specs.Prelude.{◌≡◌, ◌+◌, ◌≤◌, ◌<◌, eqb, length};
 ghost use Rattle.chip.specs.Lists.{put_at};
 ghost use Rattle.text.specs.Runs.{runs};
@@ -20,22 +20,14 @@ fn put_run(out: &mut [u8], at: usize, count: usize, colour: u8) -> usize
 }
 
 // A run goes on while the colour is the same.
-pub fn put_runs(out: &mut [u8], at: usize, line: &[u8]) -> usize
-    requires { (length line.now ≡ 256) × (at + 1600 ≤ length out.old) }
+pub fn put_runs(out: &mut [u8], at: usize, line: &[u8; 256]) -> usize
+    requires { at + 1600 ≤ length out.old }
     ensures value { result ≡ at + length (runs_text (runs eqb line.now)) }
     ensures out_after { out.new ≡ put_at at (runs_text (runs eqb line.now)) out.old }
 {
     let mut end = at;
-    let mut colour = line[0];
-    let mut count = 1;
-    for x in &line[1..] {
-        if *x == colour {
-            count += 1;
-        } else {
-            end = put_run(out, end, count, colour);
-            colour = *x;
-            count = 1;
-        }
+    for run in line.chunk_by(|a, b| a == b) {
+        end = put_run(out, end, run.len(), run[0]);
     }
-    put_run(out, end, count, colour)
+    end
 }

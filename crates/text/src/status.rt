@@ -1,4 +1,4 @@
-// Status after a full draw, and the status line.
+// Status after a full draw, and the status line. (A slice and a place: see numbers.rt.)
 ghost use Rattle.std.specs.Prelude.{◌≡◌, ◌≤◌, length};
 ghost use Rattle.chip.specs.Lists.{put_at};
 ghost use Rattle.scanline.specs.Notes.{status_through};

@@ -1,5 +1,5 @@
 // The output for a file, piece by piece: `start` reads the file, and each `step` writes a piece.
-ghost use Rattle.std.specs.Prelude.{◌≡◌, true, ◌<◌, ◌≤◌, length};
+ghost use Rattle.std.specs.Prelude.{◌≡◌, true, ◌<◌};
 ghost use Rattle.chip.specs.Lists.{put_at};
 ghost use Rattle.chip.specs.State.{masked};
 ghost use Rattle.snapshot.specs.Calls.{read_vram};
@@ -42,7 +42,8 @@ fn first_next(read: Result<u8, Refusal>) -> Next
     }
 }
 
-// Reads the file as a snapshot into VRAM, which has its length by type: no program can lend another.
+// Reads the file as a snapshot into VRAM, which has its length by type: no program can lend another. (`ppm` has its own: each makes its
+// own walk, whose fields are private to it.)
 pub fn start(file: &[u8], vram: &mut [u8; 16384]) -> Walk
     ensures value { result ≡ walks.start_walk vram.old file.now }
     ensures vram_after { vram.new ≡ read_vram vram.old file.now }
@@ -72,8 +73,8 @@ fn next_at(l: u8) -> Next
 }
 
 // The status line. Line 0 is then the range so far.
-fn status_step(walk: Walk, vram: &[u8], out: &mut [u8]) -> Piece<Walk>
-    requires { (masked walk.chip.registers ≡ true) × (length vram.now ≡ 16384) × (2048 ≤ length out.old) }
+fn status_step(walk: Walk, vram: &[u8; 16384], out: &mut [u8; 2048]) -> Piece<Walk>
+    requires { masked walk.chip.registers ≡ true }
     ensures value { result ≡ piece_of (walks.status_step vram.now walk) }
     ensures out_after { out.new ≡ put_at 0 (walks.status_step vram.now walk).bytes out.old }
 {
@@ -99,8 +100,8 @@ fn status_step(walk: Walk, vram: &[u8], out: &mut [u8]) -> Piece<Walk>
 
 // One line more. Where it differs from the range so far, that range has ended: its text is written, and the line starts the next.
 #[tactic(auto, unfolding(crate::specs::Walk::line_step))]
-fn line_step(walk: Walk, l: u8, vram: &[u8], out: &mut [u8]) -> Piece<Walk>
-    requires { (masked walk.chip.registers ≡ true) × (length vram.now ≡ 16384) × (l < 192) × (2048 ≤ length out.old) }
+fn line_step(walk: Walk, l: u8, vram: &[u8; 16384], out: &mut [u8; 2048]) -> Piece<Walk>
+    requires { (masked walk.chip.registers ≡ true) × (l < 192) }
     ensures value { result ≡ piece_of (walks.line_step vram.now walk l) }
     ensures out_after { out.new ≡ put_at 0 (walks.line_step vram.now walk l).bytes out.old }
 {
@@ -140,8 +141,7 @@ fn line_step(walk: Walk, l: u8, vram: &[u8], out: &mut [u8]) -> Piece<Walk>
 }
 
 // The text of the last range.
-fn end_step(walk: Walk, out: &mut [u8]) -> Piece<Walk>
-    requires { 2048 ≤ length out.old }
+fn end_step(walk: Walk, out: &mut [u8; 2048]) -> Piece<Walk>
     ensures value { result ≡ piece_of (walks.end_step walk) }
     ensures out_after { out.new ≡ put_at 0 (walks.end_step walk).bytes out.old }
 {
@@ -155,8 +155,7 @@ fn end_step(walk: Walk, out: &mut [u8]) -> Piece<Walk>
 }
 
 // The line of a refusal.
-fn refused_step(walk: Walk, refusal: Refusal, out: &mut [u8]) -> Piece<Walk>
-    requires { 2048 ≤ length out.old }
+fn refused_step(walk: Walk, refusal: Refusal, out: &mut [u8; 2048]) -> Piece<Walk>
     ensures value { result ≡ piece_of (walks.refused_step walk refusal) }
     ensures out_after { out.new ≡ put_at 0 (walks.refused_step walk refusal).bytes out.old }
 {

@@ -4,5 +4,5 @@
 mod mask;
 mod word;
 
-pub use mask::masks;
+pub use mask::MaskTable;
 pub use word::{blend, put_word, repeated, word_at};

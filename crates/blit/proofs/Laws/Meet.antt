@@ -15,7 +15,7 @@ use Rattle.chip.specs.Bits.{bit}
 use Rattle.chip.specs.Ranges.{any_below}
 use Rattle.chip.proofs.Laws.Ranges.{and-false, and_left, and_right, none-holds, one_holds, any-gives, any-is, any-first, any_same, any-or}
 use Rattle.sprites.specs.Pixels.{visible, hits, any_hits, meet, reach, coincidence}
-use Rattle.sprites.specs.Scanned.{no_sprite, Held}
+use Rattle.sprites.specs.Held.{no_sprite}
 use Rattle.sprites.specs.declared.scan.Scan.{Scan}
 use Rattle.sprites.specs.declared.sprite.Sprite.{Sprite}
 use Rattle.sprites.proofs.Laws.Columns.{side-small, hits-left, hits-right}
@@ -144,24 +144,24 @@ module _ (r : List ℕ) where
       ∙ sym (any-or reach (λ c. hits r s c && any_hits r l c) (λ c. meet r l c))
 
 -- a scan's sprites, compared by their rows
-module _ (r : List ℕ) (scan : Scan) (wides : List WideSprite) (held : Held r scan) (wide : WideRows r scan wides) where
+module _ (scan : Scan) (wides : List WideSprite) (wide : WideRows scan wides) where
   abbrev found : List Sprite
   found = take scan.drawn scan.sprites
 
-  shown-at : (k c : ℕ) → k < scan.drawn → shown_at (get_or (take scan.drawn wides) k no_wide).sprite.first (get_or (take scan.drawn wides) k no_wide).row c ≡ hits r (get_or found k no_sprite) c
+  shown-at : (k c : ℕ) → k < scan.drawn → shown_at (get_or (take scan.drawn wides) k no_wide).sprite.first (get_or (take scan.drawn wides) k no_wide).row c ≡ hits scan.registers (get_or found k no_sprite) c
   shown-at k c h =
-      let inside : k < 4 = omega (arith, held.few) in
+      let inside : k < 4 = omega arith in
       ap (λ (w : WideSprite). shown_at w.sprite.first w.row c) (get_or-take scan.drawn wides k no_wide h)
       ∙ ap (λ (s : Sprite). shown_at s.first (get_or wides k no_wide).row c) (wide.own k inside)
-      ∙ shown r (get_or scan.sprites k no_sprite) (get_or wides k no_wide).row (wide.each k inside) c
-      ∙ ap (λ (s : Sprite). hits r s c) (sym (get_or-take scan.drawn scan.sprites k no_sprite h))
+      ∙ shown scan.registers (get_or scan.sprites k no_sprite) (get_or wides k no_wide).row (wide.each k inside) c
+      ∙ ap (λ (s : Sprite). hits scan.registers s c) (sym (get_or-take scan.drawn scan.sprites k no_sprite h))
 
-  pub rows-coincide : any_meet (take scan.drawn wides) ≡ coincidence r found
+  pub rows-coincide : any_meet (take scan.drawn wides) ≡ coincidence scan.registers found
   unfolding rows_meet
   rows-coincide =
-      let long : length found ≡ scan.drawn = length-take-le scan.drawn scan.sprites (omega (arith, held.room, held.few)) in
-      let many : length (take scan.drawn wides) ≡ scan.drawn = length-take-le scan.drawn wides (omega (arith, wide.long, held.few)) in
+      let long : length found ≡ scan.drawn = length-take-le scan.drawn scan.sprites (omega arith) in
+      let many : length (take scan.drawn wides) ≡ scan.drawn = length-take-le scan.drawn wides (omega arith) in
       ap (λ (n : ℕ). any_below n (λ k. any_below k (λ i. wides_meet (get_or (take scan.drawn wides) i no_wide) (get_or (take scan.drawn wides) k no_wide)))) many
       ∙ any_same scan.drawn _ _ (λ k h. any_same k _ _ (λ i less. any_same reach _ _ (λ c _. ap₂ ◌&&◌ (shown-at i c (omega arith)) (shown-at k c h))))
-      ∙ ap (λ (n : ℕ). any_below n (lower r found)) (sym long)
-      ∙ by-places r found
+      ∙ ap (λ (n : ℕ). any_below n (lower scan.registers found)) (sym long)
+      ∙ by-places scan.registers found

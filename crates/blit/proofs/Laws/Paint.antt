@@ -3,10 +3,8 @@ use Prim.Native.Nat.{ℕ, zero, suc, ◌+◌, ◌-◌, ◌*◌, ◌/◌, ◌%◌
 use native.Mathlib.Decide.{dec_lt}
 use native.Mathlib.Omega.{arith}
 use mathlib.Core.Path.{◌≡◌, refl, sym, ap, ap₂, ◌∙◌}
-use mathlib.Core.Bool.{Bool, true, false, cond, ◌||◌}
+use mathlib.Core.Bool.{Bool, true, false, cond}
 use mathlib.Core.List.{List}
-use borrow.Author.Tests.{ltb-false, eqb-false}
-use lib.Dec.{eqb, ltb}
 use lib.ListN.{length, get_or}
 use Rattle.std.specs.Int.{to_be_bytes}
 use mir.Syntax.{w32}
@@ -32,24 +30,6 @@ eights false false = omega arith
 
 pub side-eights : (r : List ℕ) → side r % 8 ≡ 0
 side-eights r = eights (large_sprites r) (magnified r)
-
--- a sprite that none of three tests holds back
-pub paintable : (colour none first low high end : ℕ) → (eqb colour none || ltb first low || ltb high end) ≡ false → (colour ≡ none → ⊥) × (low ≤ first) × (end ≤ high)
-paintable colour none first low high end e =
-    let near = no-left (eqb colour none || ltb first low) (ltb high end) e in (
-      eqb-false colour none (no-left (eqb colour none) (ltb first low) near),
-      ltb-false first low (no-right (eqb colour none) (ltb first low) near),
-      ltb-false high end (no-right (eqb colour none || ltb first low) (ltb high end) e),
-    )
-  where
-    no-left : (a b : Bool) → (a || b) ≡ false → a ≡ false
-    no-left true b n = n
-    no-left false b n = refl
-
-    no-right : (a b : Bool) → (a || b) ≡ false → b ≡ false
-    no-right true true n = n
-    no-right true false n = refl
-    no-right false b n = n
 
 -- the byte of the eight from column 8 * j on
 pub byte-bit : (row j k : ℕ) → j < 4 → k < 8 → bit (7 - k) (row / 2 ^ (24 - 8 * j) % 256) ≡ bit (31 - (8 * j + k)) row

@@ -13,7 +13,7 @@ use Rattle.chip.specs.Modes.{large_sprites, magnified}
 use Rattle.chip.proofs.Laws.Bits.{bit_kept, bit_shifted, bit_below}
 use Rattle.sprites.specs.Shape.{scaled}
 use Rattle.sprites.specs.Pixels.{hits}
-use Rattle.sprites.specs.Scanned.{AsRead}
+use Rattle.sprites.specs.Held.{AsRead}
 use Rattle.sprites.specs.declared.sprite.Sprite.{Sprite}
 use Rattle.sprites.proofs.Laws.Columns.{halves}
 use Rattle.sprites.proofs.Laws.Rows.{shown-bit}

@@ -2,12 +2,12 @@
 use Prim.Native.Nat.{ℕ, zero, suc, ◌+◌, ◌≤◌, ◌<◌, suc-le-suc}
 use native.Mathlib.Nat.{not-suc-le-zero, le_of_suc-le-suc, ne_of_lt, zero-lt-suc}
 use mathlib.Core.Path.{◌≡◌, refl, ap, ap₂, sym, ◌∙◌}
-use mathlib.Core.List.{List, [], ◌∷◌, ◌++◌, append-nil}
+use mathlib.Core.List.{List, [], ◌∷◌}
 use Rattle.chip.specs.Lists.{tabulate}
 use Rattle.chip.specs.State.{Bytes}
 use lib.Dec.{lit<}
-use lib.ListN.{length, get_or, take, drop, set, replicate, length-append}
-use lib.Seq.{take_all, take_at, drop-length, sets, sets-eq, ext_get_or, get_or-set_same, get_or-set_other}
+use lib.ListN.{length, get_or, take, set, replicate}
+use lib.Seq.{take_all, ext_get_or, get_or-set_same, get_or-set_other}
 use borrow.Author.Count.{below_more}
 use native.Mathlib.Omega.{arith}
 
@@ -43,15 +43,6 @@ pub tabulated : {l : List ℕ} {n : ℕ} {f : ℕ → ℕ} → length l ≡ n �
 tabulated {l} {n} {f} e h =
     ext_get_or 0 l (tabulate n f) (e ∙ sym (length-tabulate n f)) (λ i below. h i (omega arith) ∙ sym (get_d_tabulate n f i (omega arith)))
 
--- a list's elements from n on replaced, all of them
-pub set_rest : (p q vs : List ℕ) (n : ℕ) → length p ≡ n → length q ≡ length vs → sets (p ++ q) n vs ≡ p ++ vs
-set_rest p q vs n hp hq =
-    let whole : length (p ++ q) ≡ n + length vs = length-append p q ∙ ap₂ ◌+◌ hp hq in
-    let none : drop (n + length vs) (p ++ q) ≡ [] = ap (λ (k : ℕ). drop k (p ++ q)) (sym whole) ∙ drop-length (p ++ q) in
-    sets-eq vs (p ++ q) n (omega arith)
-    ∙ ap₂ (λ (front back : List ℕ). (front ++ vs) ++ back) (take_at p q n hp) none
-    ∙ append-nil (p ++ vs)
-
 -- A list that a loop fills from the front: its first i elements are f's.
 pub record Filled (s : List ℕ) (f : ℕ → ℕ) (i : ℕ) : Type 0 where
   pub front : (k : ℕ) → k < i → get_or s k 0 ≡ f k
@@ -68,10 +59,6 @@ filled_more {s} {f} {i} x h e before =
           (λ k below. get_or-set_other s i k x 0 (ne_of_lt below) ∙ before.front k below)
           (get_or-set_same s i x 0 h ∙ e);
     }
-
--- two lists that are filled alike, whole
-pub filled-all : {s t : List ℕ} {f : ℕ → ℕ} → length s ≡ length t → Filled s f (length t) → Filled t f (length t) → s ≡ t
-filled-all {s} {t} same fs ft = ext_get_or 0 s t same (λ i h. fs.front i (rw same at h) ∙ sym (ft.front i (rw same at h)))
 
 -- lists of bytes
 pub bytes_take : (n : ℕ) (l : List ℕ) → Bytes l → Bytes (take n l)

@@ -6,7 +6,7 @@ use mathlib.Core.List.{List, [], ◌∷◌}
 use borrow.Author.Tests.{eqb-false, eq-eqb}
 use lib.Dec.{eqb, lit<}
 use Rattle.std.specs.Prelude.{Result, Ok, Err}
-use Rattle.chip.specs.Refusals.{Outcome, refusal_number, is_accepted, number_of, order, Test, gives, first_given, refusal_of, if_accepted, giving, value_of}
+use Rattle.chip.specs.Refusals.{Outcome, refusal_number, is_accepted, order, Test, gives, first_given, refusal_of, if_accepted, giving, value_of}
 use Rattle.chip.proofs.Laws.Ranges.{and-false}
 use Rattle.chip.specs.declared.refusal.Refusal.{Refusal}
 use Rattle.chip.specs.declared.refusal.Refusal.TheVariants.{VramLength, SliceLength, IllFormed, LineNumber, SnapshotLength, Trailer, Checksum, LogForm, LogRecord, ColumnNumber}
@@ -40,12 +40,6 @@ module _ {A : Type 0} where
   pub value-given : (r : Outcome) (v : A) {w : A} → giving r v ≡ Ok w → r ≡ Ok tt
   value-given (Ok x) v e = refl
   value-given (Err n) v e = cc
-
--- what it gives has the refusal's number
-module _ {A : Type 0} where
-  pub number-given : (r : Outcome) (v : A) → number_of (giving r v) ≡ number_of r
-  number-given (Ok x) v = refl
-  number-given (Err n) v = refl
 
 -- the number that a call gives is a byte
 pub given-byte : (r : Outcome) (x : ℕ) → (is_accepted r ≡ true → x < 256) → value_of (giving r x) < 256

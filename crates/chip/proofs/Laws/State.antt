@@ -1,19 +1,12 @@
 -- Well-formed states, and states whose values fit their types.
 use Prim.Native.Nat.{◌≤◌, ◌<◌}
-use mathlib.Core.Path.{◌≡◌, sym, ◌∙◌}
-use mathlib.Core.Bool.{Bool, true, false, not}
+use mathlib.Core.Path.{◌≡◌}
+use mathlib.Core.Bool.{true}
 use lib.ListN.{length}
-use borrow.Author.Tests.{not-true, not-false, leb-true}
+use borrow.Author.Tests.{leb-true}
 use Rattle.chip.specs.State.{well_formed, masked, byte_of, head_to, in_tail, Change, registers_to, address_to, buffer_to, waiting_to, status_to, redraw_to, lost_to, changed, Bytes, Fits}
 use Rattle.chip.specs.declared.state.Chip.{Chip}
 use Rattle.chip.proofs.Laws.Ranges.{and_left, and_right}
-
--- what `if !test()` shows of the test's meaning b, where the branch is taken and where it is not
-pub taken_not : {r b : Bool} → r ≡ b → not r ≡ true → b ≡ false
-taken_not {r} e t = sym e ∙ not-true r t
-
-pub left_not : {r b : Bool} → r ≡ b → not r ≡ false → b ≡ true
-left_not {r} e t = sym e ∙ not-false r t
 
 pub address-in : (c : Chip) → well_formed c ≡ true → c.address ≤ 16383
 unfolding well_formed

@@ -2,12 +2,11 @@
 use Prim.Native.Nat.{ℕ, ◌+◌, ◌≤◌, ◌<◌}
 use native.Mathlib.Nat.{ne_of_lt}
 use native.Mathlib.Omega.{arith}
-use mathlib.Core.Path.{◌≡◌, refl, sym, ap, ◌∙◌}
+use mathlib.Core.Path.{◌≡◌, sym, ap, ◌∙◌}
 use mathlib.Core.Bool.{Bool, true, false, ◌||◌}
 use mathlib.Core.List.{List}
 use borrow.Author.Count.{below_more}
-use lib.ListN.{length, get_or, set, length-set}
-use lib.Seq.{get_or-set_same, get_or-set_other}
+use lib.ListN.{length, get_or}
 use Rattle.chip.specs.Bits.{bit, set_bit}
 use Rattle.chip.proofs.Laws.Bits.{set_same, set_other}
 use Rattle.chip.proofs.Laws.Ranges.{or-false, or-true}
@@ -17,9 +16,6 @@ pub record Bits (is : ℕ → Bool) (before k byte : ℕ) : Type 0 where
   pub up : k ≤ 8
   pub done : (j : ℕ) → j < k → bit j byte ≡ (bit j before || is j)
   pub left : (j : ℕ) → k ≤ j → bit j byte ≡ bit j before
-
-pub bits-start : {is : ℕ → Bool} {before : ℕ} → Bits is before 0 before
-bits-start = record { up = omega arith; done = λ j h. absurd (omega arith); left = λ j h. refl }
 
 module _ {is : ℕ → Bool} {before k byte : ℕ} (b : Bits is before k byte) (h : k < 8) (t : Bool) (test : t ≡ is k) where
   pub bits-set : t ≡ true → Bits is before (k + 1) (set_bit k byte)
@@ -49,18 +45,3 @@ pub record Rows (is : ℕ → ℕ → Bool) (before : List ℕ) (m : ℕ) (rows 
   pub long : length rows ≡ 24
   pub done : (row : ℕ) → row < m → (k : ℕ) → k < 8 → bit k (get_or rows row 0) ≡ (bit k (get_or before row 0) || is row k)
   pub left : (row : ℕ) → m ≤ row → get_or rows row 0 ≡ get_or before row 0
-
-pub rows_start : {is : ℕ → ℕ → Bool} {before : List ℕ} → length before ≡ 24 → Rows is before 0 before
-rows_start e = record { up = omega arith; long = e; done = λ row h. absurd (omega arith); left = λ row h. refl }
-
-pub rows_more : {is : ℕ → ℕ → Bool} {before : List ℕ} {m : ℕ} {rows : List ℕ} (byte : ℕ) → Rows is before m rows → m < 24 → ((k : ℕ) → k < 8 → bit k byte ≡ (bit k (get_or rows m 0) || is m k)) → Rows is before (m + 1) (set rows m byte)
-rows_more {is} {before} {m} {rows} byte b h e =
-    record {
-      up = omega arith;
-      long = length-set rows m byte ∙ b.long;
-      done =
-          below_more (λ row. (k : ℕ) → k < 8 → bit k (get_or (set rows m byte) row 0) ≡ (bit k (get_or before row 0) || is row k)) m
-          (λ row low k small. ap (bit k) (get_or-set_other rows m row byte 0 (ne_of_lt low)) ∙ b.done row low k small)
-          (λ k small. ap (bit k) (get_or-set_same rows m byte 0 (omega (arith, b.long))) ∙ e k small ∙ ap (λ (x : ℕ). bit k x || is m k) (b.left m (omega arith)));
-      left = λ row high. get_or-set_other rows m row byte 0 (λ same. omega arith) ∙ b.left row (omega arith);
-    }

@@ -3,12 +3,9 @@ use Prim.Native.Nat.{ℕ, zero, suc, ◌+◌, ◌*◌, ◌/◌, ◌%◌, ◌<◌
 use native.Mathlib.Nat.{add-zero, add-suc, suc-add, zero-add, not-suc-le-zero}
 use native.Mathlib.Omega.{arith}
 use mathlib.Core.Path.{◌≡◌, refl, sym, ap, ap₂, ◌∙◌}
-use mathlib.Core.Bool.{Bool, true, false, cond, ◌||◌}
+use mathlib.Core.Bool.{Bool, false, ◌||◌}
 use mathlib.Core.List.{List}
-use borrow.Author.Tests.{ltb-true, ltb-false}
-use lib.Dec.{ltb}
 use lib.ListN.{get_or}
-use Rattle.chip.specs.Bits.{bit}
 use Rattle.chip.specs.Map.{is_dirty}
 use Rattle.chip.specs.Ranges.{any_below}
 use Rattle.chip.specs.State.{Bytes}
@@ -37,19 +34,8 @@ module _ {A : Type 0} (f : ℕ → Fetch A) (map m : List ℕ) where
       ∙ sym (any-first n (λ k. any_dirty map (fetched (f (i + k)) m)))
 
 -- the lines of a row of names
-pub row_of : (row k : ℕ) → k < 8 → (8 * row + k) / 8 ≡ row
+row_of : (row k : ℕ) → k < 8 → (8 * row + k) / 8 ≡ row
 row_of row k h = omega arith
-
-pub line-in-row : (row k : ℕ) → k < 8 → (8 * row + k) % 8 ≡ k
-line-in-row row k h = omega arith
-
--- in Multicolor four lines show one byte of a pattern, and four the next
-pub halves-shown : (row k b : ℕ) → k < 8 → cond (ltb k 4) (bit (row % 4 * 2) b) (bit (row % 4 * 2 + 1) b) ≡ bit ((8 * row + k) / 4 % 8) b
-halves-shown row k b h = by (ltb k 4) refl
-  where
-    by : (t : Bool) → ltb k 4 ≡ t → cond t (bit (row % 4 * 2) b) (bit (row % 4 * 2 + 1) b) ≡ bit ((8 * row + k) / 4 % 8) b
-    by true e = let small = ltb-true k 4 e in ap (λ (j : ℕ). bit j b) (omega arith)
-    by false e = let large = ltb-false k 4 e in ap (λ (j : ℕ). bit j b) (omega arith)
 
 module _ (r : List ℕ) where
   -- Where names stand: the eight lines of a row show the same, from first on.
@@ -86,7 +72,7 @@ module _ (r vram map : List ℕ) where
   cell-dirty m l i h = ap (λ (b : Bool). is_dirty map (name_address m r l i) || b) (shape-dirty m l (get_or vram (name_address m r l i) 0) i h)
 
   -- A line fetches a dirty byte from one of the three tables.
-  pub plane-dirty : (m : Mode) (l : ℕ) → any_dirty map (fetched (plane_of m r l) vram) ≡ (names_dirty m r map l || (patterns_dirty m r vram map l || colours_dirty m r vram map l))
+  plane-dirty : (m : Mode) (l : ℕ) → any_dirty map (fetched (plane_of m r l) vram) ≡ (names_dirty m r map l || (patterns_dirty m r vram map l || colours_dirty m r vram map l))
   plane-dirty m l =
       let name : ℕ → ℕ = λ i. get_or vram (name_address m r l i) 0 in
       let n : ℕ → Bool = λ i. is_dirty map (name_address m r l i) in
@@ -98,24 +84,9 @@ module _ (r vram map : List ℕ) where
       ∙ any-or (cells_in m) n (λ i. p i || k i)
       ∙ ap (λ (b : Bool). any_below (cells_in m) n || b) (any-or (cells_in m) p k)
 
-  -- where each name's eight bytes of a table have their bits in one byte of the map, and the lines show byte j of them
-  pub joined-table : (m : Mode) (row first k : ℕ) → first ≡ base m names r + row * cells_in m → k < 8 → (part j : ℕ) → j < 8 → (address : ℕ → ℕ) → ((name i : ℕ) → i < cells_in m → address name ≡ 8 * (part + name) + j) → any_below (cells_in m) (λ i. bit j (get_or map (part + get_or vram (first + i) 0) 0)) ≡ any_below (cells_in m) (λ i. is_dirty map (address (get_or vram (name_address m r (8 * row + k) i) 0)))
-  joined-table m row first k e h part j small address at =
-      any_same (cells_in m) (λ i. bit j (get_or map (part + get_or vram (first + i) 0) 0)) (λ i. is_dirty map (address (get_or vram (name_address m r (8 * row + k) i) 0)))
-      (λ i below.
-      let name : ℕ = get_or vram (first + i) 0 in
-      let place = at name i below in
-      let which : j ≡ address name % 8 = omega arith in
-      let byte : part + name ≡ address name / 8 = omega arith in
-      ap₂ (λ (x y : ℕ). bit x (get_or map y 0)) which byte ∙ ap (λ (a : ℕ). is_dirty map (address (get_or vram a 0))) (sym (name-at r m row first k e h i)))
-
-  -- in Graphics I eight names have one byte of colours
-  pub shared_at : (a row first k : ℕ) → first ≡ base GraphicsI names r + row * 32 → 8 * a ≡ base GraphicsI colours r → k < 8 → any_below 32 (λ i. is_dirty map (8 * a + get_or vram (first + i) 0 / 8)) ≡ colours_dirty GraphicsI r vram map (8 * row + k)
-  unfolding colour_address
-  shared_at a row first k e start h =
-      any_same 32 (λ i. is_dirty map (8 * a + get_or vram (first + i) 0 / 8)) (λ i. colour_dirty GraphicsI r map (8 * row + k) (get_or vram (name_address GraphicsI r (8 * row + k) i) 0))
-      (λ i below.
-      ap₂ (λ (x y : ℕ). is_dirty map (x + get_or vram y 0 / 8)) start (sym (name-at r GraphicsI row first k e h i)))
+  -- from the names, as code has told
+  pub told_names : (m : Mode) (l : ℕ) {told : Bool} → told ≡ names_dirty m r map l → any_dirty map (fetched (plane_of m r l) vram) ≡ (told || (patterns_dirty m r vram map l || colours_dirty m r vram map l))
+  told_names m l e = plane-dirty m l ∙ ap (λ (b : Bool). b || (patterns_dirty m r vram map l || colours_dirty m r vram map l)) (sym e)
 
   module _ (bytes : Bytes vram) (l : ℕ) (low : l < 192) where
     -- a table without a dirty byte has none for a line's names

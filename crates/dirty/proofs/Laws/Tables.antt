@@ -51,9 +51,13 @@ module _ (r : List ℕ) (ok : masked r ≡ true) where
   table-inside m Colours = colours-inside m
 
   -- the patterns of 256 names, in the third of a row
-  pub third-inside : (m : Mode) (a row : ℕ) → 8 * a ≡ base m patterns r → row < 24 → a + third_of m row + 256 ≤ 2048
-  third-inside Blank a row e h = omega (arith, at-most-mask r ok 4 (lit< tt))
-  third-inside GraphicsI a row e h = omega (arith, at-most-mask r ok 4 (lit< tt))
-  third-inside GraphicsII a row e h = omega (arith, at-most-mask r ok 4 (lit< tt))
-  third-inside Multicolor a row e h = omega (arith, at-most-mask r ok 4 (lit< tt))
-  third-inside Text a row e h = omega (arith, at-most-mask r ok 4 (lit< tt))
+  pub third-inside : (m : Mode) (row : ℕ) → row < 24 → base m patterns r + 8 * third_of m row + 2048 ≤ 16384
+  third-inside Blank row h = omega (arith, at-most-mask r ok 4 (lit< tt))
+  third-inside GraphicsI row h = omega (arith, at-most-mask r ok 4 (lit< tt))
+  third-inside GraphicsII row h = omega (arith, at-most-mask r ok 4 (lit< tt))
+  third-inside Multicolor row h = omega (arith, at-most-mask r ok 4 (lit< tt))
+  third-inside Text row h = omega (arith, at-most-mask r ok 4 (lit< tt))
+
+pub ruleset inside = (row_inside, table-inside, third-inside)
+
+pub ruleset registers = (at-most-mask)

@@ -48,15 +48,6 @@ one-joined k p told j l i h =
 
 -- The first fifth sprite.
 
--- a note without a fifth sprite is passed
-pub one-passed : (l : List ℕ) (i : ℕ) → i < length l → has_fifth (get_or l i 0) ≡ false → first_fifth (drop i l) ≡ first_fifth (drop (suc i) l)
-unfolding first_fifth
-one-passed l i h e = ap first_fifth (drop-cons l i 0 h) ∙ ap (λ (t : Bool). cond t (get_or l i 0 % 64) (first_fifth (drop (suc i) l))) e
-
-pub one_found : (l : List ℕ) (i : ℕ) → i < length l → has_fifth (get_or l i 0) ≡ true → first_fifth (drop i l) ≡ get_or l i 0 % 64
-unfolding first_fifth
-one_found l i h e = ap first_fifth (drop-cons l i 0 h) ∙ ap (λ (t : Bool). cond t (get_or l i 0 % 64) (first_fifth (drop (suc i) l))) e
-
 pub fifth-le : (l : List ℕ) → first_fifth l ≤ 32
 unfolding first_fifth
 fifth-le [] = omega arith

@@ -1,18 +1,22 @@
 -- The digits of a word, each and one after another.
-use Prim.Native.Nat.{ℕ, zero, suc, ◌+◌, ◌-◌, ◌*◌, ◌≤◌, ◌<◌, min}
-use native.Mathlib.Nat.{le_refl}
-use native.Mathlib.Numerals.{add-one}
+use Prim.Native.Nat.{ℕ, zero, suc, ◌^◌, ◌<◌, min}
+use native.Mathlib.Nat.{lt_of_not-le}
 use native.Mathlib.Omega.{arith}
-use mathlib.Core.Path.{◌≡◌, refl, sym}
-use mathlib.Core.Bool.{Bool, true, false, ◌&&◌}
+use mathlib.Core.Path.{◌≡◌, refl, sym, ap, ◌∙◌}
+use mathlib.Core.Bool.{Bool, true, false, not, ◌&&◌, true≢false}
 use mathlib.Core.List.{List, [], ◌∷◌}
 use mathlib.Core.Logic.{◌↔◌}
-use lib.Dec.{leb}
-use lib.ListN.{length, get_or, drop, drop_of_length-le}
-use lib.Seq.{drop-cons}
-use borrow.Author.Tests.{leb-true, leb-false}
+use lib.Dec.{eqb}
+use lib.ListN.{length, get_or}
+use Rattle.std.specs.Prelude.{Result, Ok, Err, OkIff}
+use Rattle.std.specs.Result.{result_unwrap_or}
+use Rattle.std.specs.Str.{IsUtf8, all_ascii_digits}
+use Rattle.std.specs.Str.Parse.{ParsesUnsigned}
+use Rattle.std.proofs.lemmas.Fmt.{IsAscii-from_digits}
+use Rattle.std.proofs.lemmas.Str.{IsUtf8-from_ascii}
+use Rattle.std.proofs.lemmas.Str.Parse.{FoldsDigits, IsNumeralModel, numerals_by_fold, tells_all_ascii_digits, parse_digits}
 use Rattle.chip.proofs.Laws.Ranges.{and_left, and_right}
-use Rattle.pixel.specs.Arguments.{is_digit, all_digits, with_digits}
+use Rattle.pixel.specs.Arguments.{is_digit, all_digits, is_number, with_digits, number_in}
 
 -- a word is all digits where it has one at each place
 digit-at : (word : List ℕ) → all_digits word ≡ true → (k : ℕ) → k < length word → is_digit (get_or word k 0) ≡ true
@@ -34,33 +38,41 @@ both-ways false false f g = refl
 pub digits-each : {b : Bool} (word : List ℕ) → ((b ≡ true) ↔ ((k : ℕ) → k < length word → is_digit (get_or word k 0) ≡ true)) → b ≡ all_digits word
 digits-each {b} word each = both-ways b (all_digits word) (λ e. digits-all word (each.0 e)) (λ e. each.1 (digit-at word e))
 
-module _ (word : List ℕ) (i : ℕ) (h : i < length word) where
-  pub digits-on : all_digits (drop i word) ≡ (is_digit (get_or word i 0) && all_digits (drop (i + 1) word))
-  unfolding all_digits
-  digits-on = rw (add-one, drop-cons word i 0 h)
+-- all digits, in the words of std
+same : (word : List ℕ) → all_digits word ≡ all_ascii_digits word
+unfolding all_digits
+same [] = refl
+same (c ∷ l) = ap (λ (b : Bool). is_digit c && b) (same l)
 
-  pub number-on : (n : ℕ) → with_digits n (drop i word) ≡ with_digits (n * 10 + (get_or word i 0 - 48)) (drop (i + 1) word)
-  unfolding with_digits
-  number-on n = rw (add-one, drop-cons word i 0 h)
-
--- further digits make no number smaller
-goes-up : (l : List ℕ) (n : ℕ) → n ≤ with_digits n l
+folds : FoldsDigits with_digits
 unfolding with_digits
-goes-up [] n = le_refl n
-goes-up (c ∷ l) n = let up = goes-up l (n * 10 + (c - 48)) in omega arith
+folds = record { empty = λ n. refl; more = λ n c cs k. refl }
 
--- So a number may be capped at a limit on the way, where the outcome is.
-pub capped : (limit : ℕ) (l : List ℕ) (n : ℕ) → min (with_digits (min n limit) l) limit ≡ min (with_digits n l) limit
-capped limit l n = by (leb n limit) refl
-  where
-    by : (b : Bool) → leb n limit ≡ b → min (with_digits (min n limit) l) limit ≡ min (with_digits n l) limit
-    by true e = let low = leb-true n limit e in let same : min n limit ≡ n = omega arith in rw same
-    by false e =
-        let high = leb-false n limit e in
-        let same : min n limit ≡ limit = omega arith in
-        let one = goes-up l n in
-        let other = goes-up l limit in
-        rw same (omega arith)
+numerals : IsNumeralModel (λ ds. all_ascii_digits ds ≡ true) (with_digits 0)
+numerals = numerals_by_fold _ tells_all_ascii_digits with_digits folds
 
--- the digits that are left
-pub ruleset digits = (digits-on, number-on, capped, and_left, and_right, drop_of_length-le)
+module _ (word : List ℕ) (h : is_number word ≡ true) where
+  all : all_ascii_digits word ≡ true
+  all = sym (same word) ∙ and_right (not (eqb (length word) 0)) (all_digits word) h
+
+  some : 0 < length word
+  some = by (length word) (and_left (not (eqb (length word) 0)) (all_digits word) h)
+    where
+      by : (n : ℕ) → not (eqb n 0) ≡ true → 0 < n
+      by zero e = absurd (true≢false (sym e))
+      by (suc n) e = omega arith
+
+  -- its characters are text
+  pub digits-utf8 : IsUtf8 word
+  digits-utf8 = IsUtf8-from_ascii word (IsAscii-from_digits word (numerals.to word all))
+
+  -- and `parse` refuses it only where its number is too large
+  pub parsed-or-largest : {E : Type 0} (r : Result ℕ E) → ParsesUnsigned 32 10 word r → result_unwrap_or r 4294967295 ≡ min (number_in word) 4294967295
+  parsed-or-largest r p = by r (parse_digits numerals 32 word r p all)
+    where
+      by : {E : Type 0} (r : Result ℕ E) → OkIff r ((0 < length word) × (number_in word < 2 ^ 32)) (number_in word) → result_unwrap_or r 4294967295 ≡ min (number_in word) 4294967295
+      by (Ok x) q = omega (arith, q.0.1, q.1)
+      by (Err e) q = let large : 4294967295 < number_in word = lt_of_not-le (λ l. q (some, omega arith)) in omega arith
+
+-- a word of digits, parsed
+pub ruleset parsing = (digits-utf8, parsed-or-largest)

@@ -6,7 +6,7 @@ use mathlib.Core.Bool.{Bool, true, false, cond}
 use mathlib.Core.List.{List, [], ◌∷◌, ◌++◌}
 use lib.Dec.{leb, lit<}
 use lib.ListN.{length, length-append}
-use borrow.Author.Tests.{eqb-true, leb-true, leb-false, le-leb, lt-leb}
+use borrow.Author.Tests.{leb-true, leb-false, le-leb, lt-leb}
 use Rattle.std.specs.Prelude.{Ok}
 use Rattle.chip.specs.Refusals.{Outcome, number_of, is_accepted, if_accepted, vram_test, state_test, refusal_of}
 use Rattle.chip.specs.Ports.{cleared_vram}
@@ -64,11 +64,11 @@ module _ (c : Chip) (vram : List ℕ) (l x : ℕ) where
         ap (λ (q : Point). colour_text q.colour ++ origin_text c.registers vram l x q.origin) point-is
         ∙ sym (the-new accepted (shown_text c.registers vram l x) (refused_text (number_of (point_refusal c vram l x))))
 
-    -- what an accepted point's numbers and bytes are
-    pub point-given : (masked c.registers ≡ true) × (length vram ≡ 16384) × (l < 192)
+    -- what an accepted point's registers and line are
+    pub point-given : (masked c.registers ≡ true) × (l < 192)
     point-given =
         let t = all_pass (point_tests c vram l x) (ap is_accepted accepted) in
-        (masked-in c t.1.0, eqb-true (length vram) 16384 t.0, omega (arith, leb-true l 191 t.1.1.0))
+        (masked-in c t.1.0, omega (arith, leb-true l 191 t.1.1.0))
 
 -- a number is as much above a bound when it is capped at a limit further up
 above : (bound limit n : ℕ) → bound < limit → leb (min n limit) bound ≡ leb n bound

@@ -1,8 +1,8 @@
 -- Where a line's names, patterns and colours stand, and how wide its cells are.
-use Prim.Native.Nat.{ℕ, ◌+◌, ◌*◌, ◌/◌, ◌≤◌, ◌<◌}
+use Prim.Native.Nat.{ℕ, ◌+◌, ◌*◌, ◌/◌, ◌<◌}
 use native.Mathlib.Nat.{not-suc-le-zero}
 use native.Mathlib.Omega.{arith}
-use mathlib.Core.Path.{◌≡◌, refl, ap}
+use mathlib.Core.Path.{◌≡◌}
 use mathlib.Core.Bool.{true}
 use mathlib.Core.List.{List}
 use lib.Dec.{lit<}
@@ -20,14 +20,6 @@ name-within GraphicsI l i hl hi = omega arith
 name-within GraphicsII l i hl hi = omega arith
 name-within Multicolor l i hl hi = omega arith
 name-within Text l i hl hi = omega arith
-
--- no name table is longer than 960 bytes
-pub names-few : (m : Mode) → size m names ≤ 960
-names-few Blank = omega arith
-names-few GraphicsI = omega arith
-names-few GraphicsII = omega arith
-names-few Multicolor = omega arith
-names-few Text = omega arith
 
 -- Every address of a cell is below 16,384, in every mode.
 pub name-inside : (m : Mode) (r : List ℕ) → masked r ≡ true → (l : ℕ) → l < 192 → (i : ℕ) → i < cells_in m → name_address m r l i < vram_size
@@ -57,41 +49,6 @@ columns-within GraphicsI = omega arith
 columns-within GraphicsII = omega arith
 columns-within Multicolor = omega arith
 columns-within Text = omega arith
-
--- so does each cell's run
-pub run-within : (m : Mode) (i : ℕ) → i < cells_in m → margin m + i * cell_width m + cell_width m < 257
-run-within Blank i h = absurd (not-suc-le-zero h)
-run-within GraphicsI i h = omega arith
-run-within GraphicsII i h = omega arith
-run-within Multicolor i h = omega arith
-run-within Text i h = omega arith
-
--- no line has more than 40 cells
-pub cells-few : (m : Mode) → cells_in m < 41
-cells-few Blank = omega arith
-cells-few GraphicsI = omega arith
-cells-few GraphicsII = omega arith
-cells-few Multicolor = omega arith
-cells-few Text = omega arith
-
--- Text alone has cells that are not eight columns wide
-pub text-alone : (m : Mode) → (cell_width m ≡ 8 → ⊥) → m ≡ Text
-text-alone Blank h = absurd (h refl)
-text-alone GraphicsI h = absurd (h refl)
-text-alone GraphicsII h = absurd (h refl)
-text-alone Multicolor h = absurd (h refl)
-text-alone Text h = refl
-
-pub eight-or-six : (m : Mode) → (cell_width m ≡ 8 → ⊥) → cell_width m ≡ 6
-eight-or-six m h = ap cell_width (text-alone m h)
-
--- cells of eight columns begin at column 0
-pub no-margin : (m : Mode) → cell_width m ≡ 8 → margin m ≡ 0
-no-margin Blank h = refl
-no-margin GraphicsI h = refl
-no-margin GraphicsII h = refl
-no-margin Multicolor h = refl
-no-margin Text h = omega arith
 
 -- where a cell's bytes stand
 pub ruleset addresses = (name-inside, pattern-inside, colours-inside)

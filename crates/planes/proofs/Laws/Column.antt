@@ -1,5 +1,5 @@
 -- The one cell that holds a column: it shows there, and fetches, what it does among all cells of its line.
-use Prim.Native.Nat.{ℕ, ◌+◌, ◌-◌, ◌*◌, ◌/◌, ◌%◌, ◌≤◌, ◌<◌}
+use Prim.Native.Nat.{ℕ, ◌+◌, ◌-◌, ◌*◌, ◌/◌, ◌<◌}
 use native.Mathlib.Nat.{zero-add}
 use native.Mathlib.Omega.{arith}
 use mathlib.Core.Path.{◌≡◌, refl}
@@ -8,20 +8,17 @@ use mathlib.Core.List.Memᴰ
 use mathlib.Core.List.{List}
 use lib.Dec.{leb}
 use lib.ListN.{get_or}
-use borrow.Author.Tests.{leb-true, ltb-true}
+use borrow.Author.Tests.{ltb-true}
 use Rattle.chip.specs.declared.mode.Mode.{Mode}
 use Rattle.chip.specs.declared.mode.Mode.TheVariants.{Blank, GraphicsI, GraphicsII, Multicolor, Text}
-use Rattle.chip.proofs.Laws.Ranges.{and_left, and_right}
+use Rattle.chip.proofs.Laws.Ranges.{and_right}
 use Rattle.fetches.specs.Fetch.{value, fetched, Among}
 use Rattle.fetches.proofs.Among.{each-among}
 use Rattle.planes.specs.Cells.{cells_in, cell_width, margin, cell_of, plane_of}
-use Rattle.planes.specs.Plane.{in_cells, cell_at, pixel_in_cell, cell_colour, no_cell, plane_colour, cell_holding}
+use Rattle.planes.specs.Plane.{in_cells, cell_at, cell_colour, no_cell, plane_colour, cell_holding}
 use Rattle.planes.proofs.Laws.Plane.{cell-read}
 
 -- where a cell holds the column
-pub from-margin : (m : Mode) (x : ℕ) → in_cells m x ≡ true → margin m ≤ x
-from-margin m x e = leb-true _ _ (and_left (leb (margin m) x) _ e)
-
 pub before-end : (m : Mode) (x : ℕ) → in_cells m x ≡ true → x < margin m + cells_in m * cell_width m
 before-end m x e = ltb-true _ _ (and_right (leb (margin m) x) _ e)
 
@@ -35,17 +32,6 @@ one_of Text x h = omega arith
 -- it is one of the line's cells
 pub cell_one : (m : Mode) (x : ℕ) → in_cells m x ≡ true → cell_at m x < cells_in m
 cell_one m x e = one_of m x (before-end m x e)
-
-remainder : (m : Mode) (d : ℕ) → d % cell_width m < 8
-remainder Blank d = omega arith
-remainder GraphicsI d = omega arith
-remainder GraphicsII d = omega arith
-remainder Multicolor d = omega arith
-remainder Text d = omega arith
-
--- no cell is wider than eight pixels
-pub pixel-one : (m : Mode) (x : ℕ) → pixel_in_cell m x < 8
-pixel-one m x = remainder m (x - margin m)
 
 module _ (m : Mode) (r : List ℕ) (l : ℕ) (vram : List ℕ) (x : ℕ) where
   pub read-alone : cell_colour m (value (cell_holding m r l x) vram) x ≡ plane_colour m (value (plane_of m r l) vram) x

@@ -1,6 +1,6 @@
 -- The plane's colour inside and outside of the cells, for every mode at once.
 use Prim.Native.Nat.{ℕ, ◌+◌, ◌*◌, ◌≤◌, ◌<◌}
-use native.Mathlib.Nat.{zero-add, zero-mul, add-zero}
+use native.Mathlib.Nat.{zero-add, zero-mul, add-zero, mul-le-mul_right}
 use native.Mathlib.Omega.{arith}
 use mathlib.Core.Path.{◌≡◌, ap, ◌∙◌}
 use mathlib.Core.List.{List}
@@ -43,37 +43,41 @@ module _ (m : Mode) (cells : List Cell) where
 pub cell-read : (m : Mode) (r : List ℕ) (l : ℕ) (vram : List ℕ) (i : ℕ) → i < cells_in m → get_or (value (plane_of m r l) vram) i no_cell ≡ value (cell_of m r l i) vram
 cell-read m r l vram i h = get_d-each (cell_of m r l) vram 0 (cells_in m) i no_cell h ∙ ap (λ (j : ℕ). value (cell_of m r l j) vram) (zero-add i)
 
--- A line of bytes that go by the plane's colour, as it is painted cell by cell. f gives the byte of a colour, and that of colour 0
--- stands where there is no pattern.
-module _ (f : ℕ → ℕ) (m : Mode) (r : List ℕ) (l : ℕ) (vram : List ℕ) where
-  abbrev pub by_plane : ℕ → ℕ
-  by_plane x = f (plane_colour m (value (plane_of m r l) vram) x)
+-- Bytes that go by the plane's colour: f gives the byte of a colour, and that of colour 0 stands where there is no pattern.
+abbrev by_plane : (ℕ → ℕ) → Mode → List ℕ → ℕ → List ℕ → ℕ → ℕ
+by_plane f m r l vram x = f (plane_colour m (value (plane_of m r l) vram) x)
 
-  -- the cells before cell i
-  abbrev pub ShownCells : List ℕ → ℕ → Type 0
-  ShownCells line i = Shown line by_plane (f 0) (margin m + i * cell_width m)
+-- A line of them as it is painted: the cells before cell i are there.
+pub record ShownCells (f : ℕ → ℕ) (m : Mode) (r : List ℕ) (l : ℕ) (vram line : List ℕ) (i : ℕ) : Type 0 where
+  pub shown : Shown line (by_plane f m r l vram) (f 0) (margin m + i * cell_width m)
 
-  pub shown-none : {line : List ℕ} → line ≡ replicate 256 (f 0) → ShownCells line 0
-  shown-none e =
-      rw (zero-mul, add-zero)
-      (record {
-        long = ap length e ∙ length-replicate 256 (f 0);
-        done = λ x h. rw (e, left-of-cells m (value (plane_of m r l) vram) x h) (get_or-replicate 256 x (f 0) 0 (omega (arith, columns-within m)));
-        rest = λ x h below. rw e (get_or-replicate 256 x (f 0) 0 below);
-      })
+module _ {f : ℕ → ℕ} {m : Mode} {r : List ℕ} {l : ℕ} {vram : List ℕ} where
+  pub shown-none : {line : List ℕ} {n : ℕ} → n ≡ 256 → line ≡ replicate n (f 0) → ShownCells f m r l vram line 0
+  shown-none {line} {n} long same =
+      let e : line ≡ replicate 256 (f 0) = rw long at same in
+      record {
+        shown =
+            rw (zero-mul, add-zero)
+            (record {
+              long = ap length e ∙ length-replicate 256 (f 0);
+              done = λ x h. rw (e, left-of-cells m (value (plane_of m r l) vram) x h) (get_or-replicate 256 x (f 0) 0 (omega (arith, columns-within m)));
+              rest = λ x h below. rw e (get_or-replicate 256 x (f 0) 0 below);
+            });
+      }
 
   -- one cell more
-  pub shown-cell : {line new : List ℕ} {i : ℕ} → i < cells_in m → ShownCells line i → Painted new line (margin m + i * cell_width m) (cell_width m) (λ k. f (pick (value (cell_of m r l i) vram) k)) → ShownCells new (i + 1)
-  shown-cell {line} {new} {i} h s p = rw next (shown-more same s p)
+  pub shown-cell : {line new : List ℕ} {i : ℕ} → i < cells_in m → ShownCells f m r l vram line i → Painted new line (margin m + i * cell_width m) (cell_width m) (λ k. f (pick (value (cell_of m r l i) vram) k)) → ShownCells f m r l vram new (i + 1)
+  shown-cell {line} {new} {i} h s p = record { shown = rw next (shown-more same s.shown p) }
     where
       next : margin m + (i + 1) * cell_width m ≡ margin m + i * cell_width m + cell_width m
       next = omega arith
 
-      same : (k : ℕ) → k < cell_width m → f (pick (value (cell_of m r l i) vram) k) ≡ by_plane (margin m + i * cell_width m + k)
+      same : (k : ℕ) → k < cell_width m → f (pick (value (cell_of m r l i) vram) k) ≡ by_plane f m r l vram (margin m + i * cell_width m + k)
       same k hk =
           let c : Counted m (margin m + i * cell_width m + k) i k = record { cell = h; pixel = hk; column = omega arith } in
           rw (in_cell m (value (plane_of m r l) vram) (margin m + i * cell_width m + k) i k c, cell-read m r l vram i h)
 
   -- all cells
-  pub shown-plane : {line : List ℕ} → ShownCells line (cells_in m) → line ≡ tabulate 256 by_plane
-  shown-plane s = shown-all {colour = by_plane} {behind = f 0} (λ x h. rw (right-of-cells m (value (plane_of m r l) vram) x h)) s
+  pub shown-plane : {line : List ℕ} {i : ℕ} → cells_in m ≤ i → ShownCells f m r l vram line i → line ≡ tabulate 256 (by_plane f m r l vram)
+  shown-plane {line} {i} all s =
+      shown-all {behind = f 0} (λ x h. rw (right-of-cells m (value (plane_of m r l) vram) x (omega (arith, mul-le-mul_right (cell_width m) all)))) s.shown

@@ -3,10 +3,11 @@ use Prim.Native.Nat.{ℕ, ◌%◌, ◌≤◌, ◌<◌}
 use native.Mathlib.Omega.{arith}
 use mathlib.Core.Path.{◌≡◌}
 use mathlib.Core.Bool.{true, false, ◌&&◌}
-use mathlib.Core.List.{List}
+use mathlib.Core.List.{List, ◌++◌}
 use lib.Dec.{eqb, leb}
-use lib.ListN.{length}
+use lib.ListN.{length, take, drop}
 use lib.Seq.{length-take-le}
+use Rattle.std.proofs.lemmas.List.{take-append-drop}
 use borrow.Author.Tests.{leb-true, eqb-true, le-leb, lt-leb, eq-eqb}
 use Rattle.chip.proofs.Laws.Ranges.{and_left, and_right, and_both}
 use Rattle.port_log.specs.Format.{log_trailer_at, record_bytes}
@@ -39,3 +40,7 @@ too_short {n} h = rw (lt-leb 4 n h)
 pub length-record-bytes : (log : List ℕ) → length (record_bytes log) ≡ log_trailer_at log
 unfolding record_bytes
 length-record-bytes log = length-take-le (log_trailer_at log) log (omega arith)
+
+-- The record bytes and the trailer of a log are the whole.
+pub joined : (log : List ℕ) {records trailer : List ℕ} → records ≡ take (log_trailer_at log) log → trailer ≡ drop (log_trailer_at log) log → records ++ trailer ≡ log
+joined log first last = rw (first, last) (take-append-drop (log_trailer_at log) log)

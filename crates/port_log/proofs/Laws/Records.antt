@@ -3,10 +3,12 @@ use Prim.Native.Nat.{ℕ, zero, suc, ◌+◌, ◌*◌, ◌≤◌, ◌<◌}
 use native.Mathlib.Omega.{arith}
 use native.Mathlib.Numerals.{add-one}
 use mathlib.Core.Path.{◌≡◌, refl, sym, ap, ◌∙◌}
+use mathlib.Core.Bool.{Bool, ◌&&◌}
 use mathlib.Core.List.{List, [], ◌∷◌}
-use lib.ListN.{length, get_or, drop}
+use lib.ListN.{length, get_or, drop, length-drop}
 use lib.Seq.{drop-cons}
-use Rattle.port_log.specs.Records.{operation_of, records_of, record_at}
+use Rattle.std.proofs.Math.Bool.{and_assoc, and-true}
+use Rattle.port_log.specs.Records.{operation_of, allowed, all_allowed, records_of, record_at}
 use Rattle.port_log.specs.declared.records.Operation.TheVariants.{Reset}
 
 pub records-none : (l : List ℕ) → length l < 2 → records_of l ≡ []
@@ -24,6 +26,18 @@ records-next l i h =
     ∙ ap (λ (n : ℕ). get_or l (2 * i) 0 ∷ drop n l) (sym (add-one (2 * i)))
     ∙ ap (λ (t : List ℕ). get_or l (2 * i) 0 ∷ t) (drop-cons l (2 * i + 1) 0 h)
     ∙ ap (λ (n : ℕ). get_or l (2 * i) 0 ∷ get_or l (2 * i + 1) 0 ∷ drop n l) behind)
+
+-- Whether the records from i on are allowed: record i decides, and those after it.
+abbrev pub allowed_from : ℕ → List ℕ → Bool
+allowed_from i l = all_allowed (records_of (drop (2 * i) l))
+
+pub allowed_next : (before : Bool) (l : List ℕ) (i : ℕ) → 2 * i + 1 < length l → (before && allowed_from i l) ≡ ((before && allowed (record_at l i)) && allowed_from (i + 1) l)
+unfolding all_allowed
+allowed_next before l i h = rw (records-next l i h) (sym (and_assoc before (allowed (record_at l i)) (allowed_from (i + 1) l)))
+
+pub allowed_none : (before : Bool) (l : List ℕ) (i : ℕ) → length l ≤ 2 * i + 1 → (before && allowed_from i l) ≡ before
+unfolding all_allowed
+allowed_none before l i h = rw (records-none (drop (2 * i) l) (rw length-drop (omega arith))) (and-true before)
 
 -- no number above 5 names another operation
 pub others-reset : (n : ℕ) → 6 ≤ n → operation_of n ≡ Reset

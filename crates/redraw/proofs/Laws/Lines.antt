@@ -5,8 +5,8 @@ use native.Mathlib.Numerals.{add-one}
 use native.Mathlib.Omega.{arith}
 use mathlib.Core.Path.{◌≡◌, refl, sym, ap, ap₂, ◌∙◌}
 use mathlib.Core.Bool.{Bool, true, false, cond}
-use mathlib.Core.List.{List, ◌++◌, append_assoc, append-nil}
-use lib.ListN.{length, take, drop, length-append, length-drop, drop_of_length-le}
+use mathlib.Core.List.{List, ◌++◌, append_assoc}
+use lib.ListN.{length, take, drop, length-append, length-drop}
 use lib.Seq.{take_at, drop_at, drop-drop, length-take-le}
 use mir.Val.{bool_byte}
 use Rattle.redraw.specs.Lines.{lines_end_to_end, line_at, count_below}
@@ -52,10 +52,6 @@ module _ (f : ℕ → List ℕ) (old frame : List ℕ) (l : ℕ) (long : length 
       ap₂ ◌++◌ front (ap₂ ◌++◌ e beyond)
       ∙ sym (append_assoc (lines_end_to_end l f) (f l) (drop (256 * (l + 1)) old))
       ∙ ap (λ (t : List ℕ). t ++ drop (256 * (l + 1)) old) (sym (end_more f l))
-
--- all lines
-pub all_lines : (f : ℕ → List ℕ) (old frame : List ℕ) (n : ℕ) → length old ≡ 256 * n → frame ≡ lines_end_to_end n f ++ drop (256 * n) old → frame ≡ lines_end_to_end n f
-all_lines f old frame n h so = so ∙ ap (λ (t : List ℕ). lines_end_to_end n f ++ t) (drop_of_length-le old {i = 256 * n} (omega arith)) ∙ append-nil (lines_end_to_end n f)
 
 pub count-more : (n : ℕ) (p : ℕ → Bool) → count_below (n + 1) p ≡ count_below n p + bool_byte (p n)
 unfolding count_below

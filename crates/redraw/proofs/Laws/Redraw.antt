@@ -7,10 +7,9 @@ use mathlib.Core.List.{List, ◌++◌}
 use lib.ListN.{length, get_or, take, drop, set, length-set}
 use lib.Seq.{get_or-set_other}
 use mir.Val.{bool_byte}
-use Rattle.chip.specs.Lists.{tabulate}
-use Rattle.chip.proofs.Laws.Lists.{Filled, filled_none, filled_more, tabulated}
+use Rattle.chip.proofs.Laws.Lists.{Filled, filled_none, filled_more}
 use Rattle.redraw.specs.Lines.{lines_end_to_end, count_below}
-use Rattle.redraw.proofs.Laws.Lines.{length-end, line-stored, all_lines, count-more}
+use Rattle.redraw.proofs.Laws.Lines.{length-end, line-stored, count-more}
 
 -- After l of n lines: they are the new ones, and so are their notes; the rest is as it was; and the due ones are counted.
 pub record Redrawn (n : ℕ) (line : ℕ → List ℕ) (note : ℕ → ℕ) (is : ℕ → Bool) (frame₀ notes₀ frame notes : List ℕ) (count l : ℕ) : Type 0 where
@@ -43,6 +42,3 @@ module _ (n : ℕ) (line : ℕ → List ℕ) (note : ℕ → ℕ) (is : ℕ → 
   module _ {frame₀ notes₀ frame notes : List ℕ} {count l : ℕ} (h : l < n) (e : length frame₀ ≡ 256 * n) (g : Redrawn n line note is frame₀ notes₀ frame notes count l) where
     pub redrawn-line : {part : List ℕ} {v : ℕ} {b : Bool} {w : ℕ} → w ≡ 256 → part ≡ line l → v ≡ note l → b ≡ is l → Redrawn n line note is frame₀ notes₀ (take (256 * l) frame ++ (part ++ drop w (drop (256 * l) frame))) (set notes l v) (count + bool_byte b) (l + 1)
     redrawn-line {part} {v} {b} ew ep en eb = rw ew (redrawn-more h g part v b ep en eb)
-
-  pub redrawn-all : {frame₀ notes₀ frame notes : List ℕ} {count : ℕ} → length frame₀ ≡ 256 * n → Redrawn n line note is frame₀ notes₀ frame notes count n → (frame ≡ lines_end_to_end n line) × (notes ≡ tabulate n note)
-  redrawn-all {frame₀} {notes₀} {frame} e g = (all_lines line frame₀ frame n e g.lines, tabulated g.long g.done.front)

@@ -8,9 +8,13 @@ use mathlib.Core.List.{List, ◌++◌}
 use lib.ListN.{length, get_or, take}
 use lib.Seq.{take-add, take_all}
 use mir.Val.{bool_byte}
+use Rattle.chip.specs.Bits.{bit}
 use Rattle.chip.specs.Lists.{tabulate}
+use Rattle.chip.proofs.Laws.Bits.{bit-zero}
 use Rattle.chip.proofs.Laws.Lists.{tabulated}
+use Rattle.scanline.specs.Calls.{note_at, colours}
 use Rattle.redraw.specs.Lines.{lines_end_to_end, line_at, count_below}
+use Rattle.redraw.specs.Row.{row_lines, row_notes, row_count}
 use Rattle.redraw.proofs.Laws.Lines.{end_same}
 
 -- a frame's lines, end to end
@@ -41,3 +45,19 @@ count_none (suc n) = ap (λ (a : ℕ). a + 0) (count_none n)
 
 pub no-count : (is : ℕ → Bool) (n : ℕ) → ((l : ℕ) → l < n → is l ≡ false) → 0 ≡ count_below n is
 no-count is n none = sym (count_same n is (λ k. false) none ∙ count_none n)
+
+-- no line of a row is due
+none_due : {due : ℕ} → due ≡ 0 → (k : ℕ) → k < 8 → bit k due ≡ false
+none_due e k h = ap (bit k) e ∙ bit-zero k
+
+module _ {due : ℕ} (e : due ≡ 0) where
+  pub still-count : 0 ≡ row_count due
+  still-count = no-count (λ k. bit k due) 8 (none_due e)
+
+  pub still-lines : (r vram : List ℕ) (row : ℕ) (part : List ℕ) → length part ≡ 2048 → part ≡ row_lines r vram row due part
+  still-lines r vram row part long = frame-stays (λ k. bit k due) 8 (none_due e) (λ k. colours r vram (8 * row + k)) part long
+
+  pub still-notes : (r vram : List ℕ) (row : ℕ) (notes : List ℕ) → length notes ≡ 8 → notes ≡ row_notes r vram row due notes
+  still-notes r vram row notes long = notes-stay (λ k. bit k due) 8 (none_due e) (λ k. note_at r vram (8 * row + k)) notes long
+
+pub ruleset still = (still-count, still-lines, still-notes)

@@ -101,16 +101,15 @@ module _ (input : List ℕ) (bytes : Bytes input) (accepted : replay_refusal inp
       → {r : Ran} {q : Reached} → r ≡ ran input → r.result ≡ Ok q → {vram : List ℕ} → vram ≡ vram_after input
       → {n : ℕ} → n ≡ length (report_of q)
       → {output' errors' : List ℕ} → output' ≡ written r.chip vram output → errors' ≡ put_at 0 (report_of q) errors
-      → (record { output = 16406; errors = n } ≡ written_of (replayed input)) × ((output' ≡ put_at 0 (replayed input).output output) × (errors' ≡ put_at 0 (replayed input).errors errors))
+      → record { value : record { output = 16406; errors = n } ≡ written_of (replayed input); output_after : output' ≡ put_at 0 (replayed input).output output; errors_after : errors' ≡ put_at 0 (replayed input).errors errors }
   accepted-writes output errors room {r} {q} run got kept counts is line =
       let writes : write_refusal (ran input).chip (vram_after input) output ≡ Ok tt = write-accepted (ran input).chip (vram_after input) output full-after room ready-after.well-formed in
       let file : written (ran input).chip (vram_after input) output ≡ (after_run input).output = the-new writes (after_run input).output output in
       let same : Ok q ≡ Ok (reached input) = sym got ∙ ap (λ (x : Ran). x.result) run ∙ the-value run-accepted (reached input) in
       let far : q ≡ reached input = cc in
-      rw (streams-accepted input accepted) (
-        ap₂ (λ (m k : ℕ). record { output = m; errors = k }) (sym length-after) (counts ∙ ap (λ (x : Reached). length (report_of x)) far),
-        (
-          is ∙ (λ i. written (run i).chip (kept i) output) ∙ file ∙ sym (put_whole (after_run input).output output (length-after ∙ sym room)),
-          line ∙ ap (λ (x : Reached). put_at 0 (report_of x) errors) far,
-        ),
-      )
+      rw (streams-accepted input accepted)
+      (record {
+        value = ap₂ (λ (m k : ℕ). record { output = m; errors = k }) (sym length-after) (counts ∙ ap (λ (x : Reached). length (report_of x)) far);
+        output_after = is ∙ (λ i. written (run i).chip (kept i) output) ∙ file ∙ sym (put_whole (after_run input).output output (length-after ∙ sym room));
+        errors_after = line ∙ ap (λ (x : Reached). put_at 0 (report_of x) errors) far;
+      })

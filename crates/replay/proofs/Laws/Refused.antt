@@ -31,15 +31,18 @@ both-accepted r s e = by (is_accepted r) refl e
     by false t h = absurd (differ (sym (ap is_accepted h) ∙ t))
 
 module _ (input : List ℕ) where
-  pub too_short : length input < 16406 → snapshot_refusal input ≡ Err SnapshotLength
-  too_short h =
-      let all : length (snapshot_part input) ≡ length input = ap length (take_all 16406 input (omega arith)) in
-      wrong-length cleared_vram (snapshot_part input) (length-replicate {A = ℕ} 16384 0) (λ e. omega arith)
-
   -- the snapshot's refusal comes first ..
   pub by-snapshot : is_accepted (snapshot_refusal input) ≡ false → replay_refusal input ≡ snapshot_refusal input
   unfolding replay_refusal
   by-snapshot e = ap (λ (b : Bool). cond b (refusal_of_run input) (snapshot_refusal input)) e
+
+  pub snapshot-refused : {r : Refusal} → snapshot_refusal input ≡ Err r → replay_refusal input ≡ Err r
+  snapshot-refused e = by-snapshot (ap is_accepted e) ∙ e
+
+  pub too_short : length input < 16406 → replay_refusal input ≡ Err SnapshotLength
+  too_short h =
+      let all : length (snapshot_part input) ≡ length input = ap length (take_all 16406 input (omega arith)) in
+      snapshot-refused (wrong-length cleared_vram (snapshot_part input) (length-replicate {A = ℕ} 16384 0) (λ e. omega arith))
 
   -- .. and then that of the run
   pub by-run : snapshot_refusal input ≡ Ok tt → replay_refusal input ≡ (refusal_of_run input)
@@ -58,8 +61,8 @@ module _ (input : List ℕ) where
   pub refused-writes : (r : Refusal) → replay_refusal input ≡ Err r
       → {w : Written} → w ≡ record { output = 0; errors = length (refused_text (refusal_number r)) }
       → (output errors : List ℕ) {errors' : List ℕ} → errors' ≡ put_at 0 (refused_text (refusal_number r)) errors
-      → (w ≡ written_of (replayed input)) × ((output ≡ put_at 0 (replayed input).output output) × (errors' ≡ put_at 0 (replayed input).errors errors))
-  refused-writes r is counts output errors line = rw (streams-refused (ap is_accepted is), is) (counts, (refl, line))
+      → record { value : w ≡ written_of (replayed input); output_after : output ≡ put_at 0 (replayed input).output output; errors_after : errors' ≡ put_at 0 (replayed input).errors errors }
+  refused-writes r is counts output errors line = rw (streams-refused (ap is_accepted is), is) (record { value = counts; output_after = refl; errors_after = line })
 
   pub streams-accepted : replay_refusal input ≡ Ok tt → replayed input ≡ after_run input
   unfolding replayed

@@ -8,6 +8,7 @@ use lib.ListN.{get_or}
 use Rattle.chip.specs.State.{register}
 use Rattle.chip.specs.declared.mode.Mode.{Mode}
 use Rattle.chip.specs.declared.mode.Mode.TheVariants.{GraphicsI, GraphicsII, Multicolor, Text}
+use Rattle.chip.proofs.Laws.Tables.{at-most-mask}
 use Rattle.fetches.specs.Fetch.{value}
 use Rattle.planes.specs.Cells.{cells_in, name_address, pattern_address, colour_address, shape_of, cell_of}
 
@@ -75,3 +76,6 @@ module _ (r vram : List ℕ) (row k i : ℕ) (h : k < 8) where
       let name : ℕ = name_at Multicolor r vram row i in
       value (cell_of Multicolor r (8 * row + k) i) vram ≡ record { pattern = 0xF0; colours = get_or vram (register 4 r * 2048 + row % 4 * 2 + 8 * name + 1) 0 }
   cell-lower below = block 1 (omega arith)
+
+-- that the tables stand within VRAM
+pub ruleset registers = (at-most-mask)

@@ -1,13 +1,13 @@
 -- The pattern plane of one line, as it is painted cell by cell.
 use Prim.Native.Nat.{ℕ, ◌+◌, ◌*◌, ◌≤◌, ◌<◌}
-use native.Mathlib.Nat.{not-suc-le-zero}
+use native.Mathlib.Nat.{not-suc-le-zero, suc-mul}
+use native.Mathlib.Numerals.{add-one}
 use native.Mathlib.Omega.{arith}
 use mathlib.Core.Path.{◌≡◌, sym, ◌∙◌}
 use mathlib.Core.List.{List}
 use lib.ListN.{length, get_or}
 use Rattle.chip.specs.Lists.{tabulate}
 use Rattle.chip.specs.declared.mode.Mode.{Mode}
-use Rattle.chip.specs.declared.mode.Mode.TheVariants.{Blank, GraphicsI, GraphicsII, Multicolor, Text}
 use Rattle.chip.proofs.Laws.Lists.{tabulated}
 use Rattle.fetches.specs.Fetch.{value}
 use Rattle.planes.specs.Cells.{cells_in, cell_width, margin, cell_of, plane_of}
@@ -21,14 +21,6 @@ use Rattle.rows.specs.Rows.{plane_pixel, Paints}
 use Rattle.rows.proofs.Laws.Paints.{blended, shown}
 use Rattle.rows.proofs.Laws.Plane.{cell-pixel, margin-pixel}
 use Rattle.rows.proofs.Laws.Tiles.{narrow}
-
--- Each cell has room for eight columns, narrow ones too.
-pub word-within : (m : Mode) (i : ℕ) → i < cells_in m → margin m + i * cell_width m + 8 < 257
-word-within Blank i h = absurd (not-suc-le-zero h)
-word-within GraphicsI i h = omega arith
-word-within GraphicsII i h = omega arith
-word-within Multicolor i h = omega arith
-word-within Text i h = omega arith
 
 pub line-none : {line : List ℕ} {colour : ℕ → ℕ} → length line ≡ 256 → LineSettled line colour 0
 line-none e = record { long = e; done = λ x h. absurd (not-suc-le-zero h) }
@@ -47,14 +39,16 @@ line-all s = tabulated s.long s.done
 
 module _ (m : Mode) (r vram : List ℕ) (l : ℕ) where
   -- One cell more.
-  pub line-cell : {new old paints : List ℕ} {at : ℕ} {cell : Cell} (w i : ℕ) → Paints r paints → i < cells_in m → at ≡ margin m + i * cell_width m → cell ≡ value (cell_of m r l i) vram → cell.colours < 256 → ((j : ℕ) → j < 8 → byte_of j w ≡ blended paints cell.pattern cell.colours j) → LineSettled old (plane_pixel m r vram l) at → Painted new old at 8 (λ j. byte_of j w) → LineSettled new (plane_pixel m r vram l) (at + cell_width m)
-  line-cell {at = at} {cell = cell} w i paint h e read small word s p =
-      line-more (cell_width m) (narrow m)
+  pub line-cell : {new old paints : List ℕ} {cell : Cell} (w i : ℕ) → Paints r paints → i < cells_in m → cell ≡ value (cell_of m r l i) vram → cell.colours < 256 → ((j : ℕ) → j < 8 → byte_of j w ≡ blended paints cell.pattern cell.colours j) → LineSettled old (plane_pixel m r vram l) (margin m + i * cell_width m) → Painted new old (margin m + i * cell_width m) 8 (λ j. byte_of j w) → LineSettled new (plane_pixel m r vram l) (margin m + (i + 1) * cell_width m)
+  line-cell {cell = cell} w i paint h read small word s p =
+      let next : margin m + i * cell_width m + cell_width m ≡ margin m + (i + 1) * cell_width m = rw (add-one, suc-mul) (omega arith) in
+      rw next
+      at (line-more (cell_width m) (narrow m)
       (λ j hj.
       let few = narrow m in
       let below : j < 8 = omega arith in
-      word j below ∙ shown paint (sym read) small j below ∙ (rw e (cell-pixel m r vram l i j h hj)))
-      s p
+      word j below ∙ shown paint (sym read) small j below ∙ cell-pixel m r vram l i j h hj)
+      s p)
 
   -- Eight columns without a cell.
   pub line-margin : {new old paints : List ℕ} {at : ℕ} → Paints r paints → ((j : ℕ) → j < 8 → plane_colour m (value (plane_of m r l) vram) (at + j) ≡ 0) → LineSettled old (plane_pixel m r vram l) at → Painted new old at 8 (λ j. byte_of j (get_or paints 0 0)) → LineSettled new (plane_pixel m r vram l) (at + 8)

@@ -1,9 +1,9 @@
 -- The cells of a row as tiles, painted one after the other.
 use Prim.Native.Nat.{ℕ, ◌+◌, ◌*◌, ◌≤◌, ◌<◌}
-use native.Mathlib.Nat.{zero-mul, add-zero, add_assoc, suc-mul}
+use native.Mathlib.Nat.{add_assoc, suc-mul}
 use native.Mathlib.Numerals.{add-one}
 use native.Mathlib.Omega.{arith}
-use mathlib.Core.Path.{◌≡◌, refl, ◌∙◌}
+use mathlib.Core.Path.{◌≡◌, ◌∙◌}
 use mathlib.Core.List.{List}
 use lib.ListN.{length}
 use Rattle.chip.specs.declared.mode.Mode.{Mode}
@@ -27,9 +27,6 @@ Shows m tile colour = (i k j : ℕ) → i < cells_in m → k < 8 → j < cell_wi
 pub record Tiled (m : Mode) (tile : ℕ → ℕ → ℕ → ℕ) (new old : List ℕ) (n : ℕ) : Type 0 where
   pub long : length new ≡ length old
   pub settled : (colour : ℕ → ℕ → ℕ) → Shows m tile colour → Settled old colour (margin m) → Settled new colour (margin m + n * cell_width m)
-
-pub tiled-none : (m : Mode) {tile : ℕ → ℕ → ℕ → ℕ} {part : List ℕ} → Tiled m tile part part 0
-tiled-none m = record { long = refl; settled = λ colour shows s. rw (zero-mul, add-zero) s }
 
 -- One tile more. Of a narrow cell's stripe the last columns do not count.
 pub tiled-more : (m : Mode) {tile : ℕ → ℕ → ℕ → ℕ} {new now old : List ℕ} {n at : ℕ} → n < cells_in m → at ≡ margin m + n * cell_width m → Tiled m tile now old n → Striped new now at (tile n) → Tiled m tile new old (n + 1)

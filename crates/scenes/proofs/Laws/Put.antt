@@ -6,7 +6,7 @@ use native.Mathlib.Omega.{arith}
 use mathlib.Core.Path.{◌≡◌, refl, sym, ap, ap₂, ◌∙◌}
 use mathlib.Core.List.{List, [], ◌∷◌, ◌++◌}
 use lib.ListN.{length, get_or, take, set}
-use lib.Seq.{sets, length-sets, take-suc, take_all, length-take-le}
+use lib.Seq.{sets, take-suc, take_all, length-take-le}
 use Rattle.chip.specs.Lists.{tabulate}
 use Rattle.chip.proofs.Laws.Lists.{length-tabulate, get_d_tabulate}
 use Rattle.scenes.specs.Put.{put_from}
@@ -42,11 +42,6 @@ module _ {vram : List ℕ} {at : ℕ} {bytes : List ℕ} where
 
   pub put_all : {now : List ℕ} {i : ℕ} → length bytes ≤ i → Put vram at bytes now i → now ≡ put_from vram at bytes
   put_all {now} {i} h g = g.so_far ∙ ap (put_from vram at) (take_all i bytes h)
-
-  -- VRAM keeps its length
-  pub put-long : {now : List ℕ} {i : ℕ} → Put vram at bytes now i → length now ≡ length vram
-  unfolding put_from
-  put-long {now} {i} g = ap length g.so_far ∙ length-sets vram at (take i bytes)
 
 -- The same of n bytes that f tells.
 module _ {vram : List ℕ} {at n : ℕ} (f : ℕ → ℕ) where

@@ -35,6 +35,10 @@ lowest (suc w) x h l = by (x % 2) refl (λ (even : x % 2 ≡ 0). lowest w (x / 2
         let whole : x / 2 * 2 + 1 ≡ x = omega arith in
         (record { half = x / 2; shifted = mul-one (x / 2 * 2 + 1) ∙ whole }, suc-le-suc zero-le)
 
+-- of a number of 32 bits
+pub lowest_small : (x : ℕ) → 0 < x → x < 2 ^ 32 → count_trailing_zeros 32 x < 32
+lowest_small x h l = (lowest 32 x h l).1
+
 odd-twice : (h : ℕ) → odd (h * 2 + 1) ≡ true
 odd-twice h = let one : (h * 2 + 1) % 2 ≡ 1 = omega arith in eq-eqb ((h * 2 + 1) % 2) 1 one
 

@@ -1,8 +1,8 @@
 -- A sprite put into the sets of a run of lines.
-use Rattle.std.proofs.Common.{◌≡◌, ℕ, ◌+◌, ◌-◌, ◌%◌, ◌<◌, ◌≤◌, cond, ltb, List, ◌++◌, length, get_or, take, drop, set, refl, ap, ◌∙◌, arith, length-drop, length-set, length-take, get_or-drop, get_or-set_other, get_or-take, le-ltb, lt-ltb}
+use Rattle.std.proofs.Common.{◌≡◌, ℕ, ◌+◌, ◌-◌, ◌%◌, ◌<◌, ◌≤◌, cond, ltb, List, ◌++◌, length, get_or, take, drop, set, ap, ◌∙◌, arith, length-drop, length-set, length-take, get_or-drop, get_or-set_other, get_or-take, le-ltb, lt-ltb}
 use native.Mathlib.Decide.{dec_lt}
 use lib.Bits.{bit_or}
-use Rattle.chip.proofs.Laws.Lists.{Filled, filled_none, filled_more}
+use Rattle.chip.proofs.Laws.Lists.{Filled, filled_more}
 use Rattle.chip.proofs.Laws.Stored.{stored-long, stored-left, stored-inside, stored-right}
 use Rattle.sprites.specs.Shape.{row_offset}
 use Rattle.sets.proofs.Laws.Added.{Added}
@@ -12,9 +12,6 @@ pub record Run (old part : List ℕ) (one i : ℕ) : Type 0 where
   pub long : length part ≡ length old
   pub done : Filled part (λ k. bit_or (get_or old k 0) one) i
   pub rest : (k : ℕ) → i ≤ k → get_or part k 0 ≡ get_or old k 0
-
-pub run_none : {part : List ℕ} {one : ℕ} → Run part part one 0
-run_none = record { long = refl; done = filled_none; rest = λ k h. refl }
 
 pub run_more : {old part : List ℕ} {one i : ℕ} → i < length part → Run old part one i → Run old (set part i (bit_or (get_or part i 0) one)) one (i + 1)
 run_more {old} {part} {one} {i} h before =

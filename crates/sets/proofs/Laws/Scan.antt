@@ -1,5 +1,5 @@
 -- A line's scan by its set.
-use Rattle.std.proofs.Common.{◌≡◌, ℕ, zero, suc, ◌+◌, ◌-◌, ◌^◌, ◌<◌, ◌≤◌, Bool, true, false, not, ◌&&◌, eqb, List, [], set, replicate, sym, refl, ap, ◌∙◌, lt_of_le_of_lt, add-one, arith}
+use Rattle.std.proofs.Common.{◌≡◌, ℕ, zero, suc, ◌+◌, ◌-◌, ◌^◌, ◌<◌, ◌≤◌, Bool, true, false, not, ◌&&◌, eqb, List, [], take, set, sym, refl, ap, ◌∙◌, lt_of_le_of_lt, add-one, arith}
 use native.Mathlib.Decide.{dec_lt}
 use borrow.Author.Tests.{not-true}
 use lib.Bits.{bit_and, and_le_l}
@@ -10,12 +10,12 @@ use Rattle.chip.proofs.Laws.Refusals.{differ}
 use Rattle.fetches.specs.Fetch.{value}
 use Rattle.sprites.specs.Shape.{covers}
 use Rattle.sprites.specs.Scan.{Found, scan_of, sprite_of, fifth_of}
-use Rattle.sprites.specs.Scanned.{no_sprite, AsRead, Scanned}
+use Rattle.sprites.specs.Held.{AsRead, Held}
 use Rattle.sprites.specs.declared.scan.Ended.{Ended}
 use Rattle.sprites.specs.declared.scan.Ended.TheVariants.{Terminator, Fifth, All}
 use Rattle.sprites.specs.declared.sprite.Sprite.{Sprite}
 use Rattle.sprites.proofs.Laws.Scan as scan
-use Rattle.sprites.proofs.Laws.Scan.{rest, Going, going_start, going_on, going-draw, going_end}
+use Rattle.sprites.proofs.Laws.Scan.{rest, Going, going_on, going-draw, going_end}
 use Rattle.sets.specs.Sets.{y_of, before_terminator, IsSet, FoundBySet}
 use Rattle.sets.proofs.Laws.Bits.{Lowest, lowest_set, lowest-below, cleared, kept}
 use Rattle.sets.proofs.Laws.Sets.{no_terminator, none_more, each-before}
@@ -29,16 +29,13 @@ pub record Settled (r vram : List ℕ) (l all : ℕ) (sprites : List Sprite) (dr
   pub done : (m : ℕ) → m < n → bit m left ≡ false
   pub to-come : (m : ℕ) → n ≤ m → bit m left ≡ bit m all
 
-pub settled-start : {r vram : List ℕ} {l all : ℕ} {sprites : List Sprite} → sprites ≡ replicate 4 no_sprite → all < 2 ^ 32 → Settled r vram l all sprites 0 all
-settled-start e small = record { n = 0; going = going_start e; none = refl; small = small; done = λ m h. absurd (omega arith); to-come = λ m h. refl }
-
 -- a scan's result, where another end has the same fifth sprite
-found-by : {r : List ℕ} {sprites : List Sprite} {drawn : ℕ} {e : Ended} {f : Found} → Scanned r (record { sprites = sprites; drawn = drawn; ended = e }) f → (e' : Ended) → fifth_of e' ≡ fifth_of e → FoundBySet r (record { sprites = sprites; drawn = drawn; ended = e' }) f
-found-by s e' same =
+found-by : {r : List ℕ} {sprites : List Sprite} {drawn : ℕ} {e : Ended} {f : Found} (held : Held r sprites drawn) → f ≡ record { sprites = take drawn sprites; ended = e } → (e' : Ended) → fifth_of e' ≡ fifth_of e → FoundBySet r (record { registers = r; sprites = sprites; drawn = drawn; ended = e'; held = held }) f
+found-by held whole e' same =
     record {
-      held = record { room = s.held.room; few = s.held.few; as_read = s.held.as_read };
-      sprites = s.sprites;
-      fifth = same ∙ ap fifth_of s.ended;
+      registers = refl;
+      sprites = sym (ap (λ (f : Found). f.sprites) whole);
+      fifth = same ∙ sym (ap (λ (f : Found). fifth_of f.ended) whole);
     }
 
 no-terminator : (r vram : List ℕ) (n m : ℕ) → no_terminator r vram n ≡ true → m < n → eqb (y_of r vram m) 208 ≡ false
@@ -83,11 +80,11 @@ module _ (r vram : List ℕ) (l all : ℕ) (is_set : IsSet r vram l all) where
 
   module _ {sprites : List Sprite} {drawn left : ℕ} (s : Settled r vram l all sprites drawn left) where
     -- none is left
-    pub settled-none : left ≡ 0 → FoundBySet r (record { sprites = sprites; drawn = drawn; ended = All }) (value (scan_of r l) vram)
-    settled-none e =
+    pub settled-none : (held : Held r sprites drawn) → left ≡ 0 → FoundBySet r (record { registers = r; sprites = sprites; drawn = drawn; ended = All; held = held }) (value (scan_of r l) vram)
+    settled-none held e =
         let up = s.going.up in
         let none = nothing drawn (32 - s.n) s.n (omega arith) s.none (λ m h. sym (s.to-come m h) ∙ ap (bit m) e ∙ bit-zero m) in
-        found-by (going_end s.going none.0 none.1) All (sym none.2)
+        found-by held (going_end s.going none.0 none.1) All (sym none.2)
 
     -- sprite t is the next in the set
     module _ {t : ℕ} (low : Lowest left t) (small : t < 32) where
@@ -115,8 +112,8 @@ module _ (r vram : List ℕ) (l all : ℕ) (is_set : IsSet r vram l all) where
           let after = not_done in
           passed t none-through (omega arith) (t - s.n) s.n (omega arith) (λ m h below. sym (s.to-come m h) ∙ lowest-below low m below) s.going
 
-      pub settled-fifth : drawn ≡ 4 → FoundBySet r (record { sprites = sprites; drawn = drawn; ended = Fifth t }) (value (scan_of r l) vram)
-      settled-fifth four = found-by (going_end there (Fifth t) (scan.at-fifth r l vram t drawn small not_last next-covers four)) (Fifth t) refl
+      pub settled-fifth : (held : Held r sprites drawn) → drawn ≡ 4 → FoundBySet r (record { registers = r; sprites = sprites; drawn = drawn; ended = Fifth t; held = held }) (value (scan_of r l) vram)
+      settled-fifth held four = found-by held (going_end there (Fifth t) (scan.at-fifth r l vram t drawn small not_last next-covers four)) (Fifth t) refl
 
       pub settled-draw : (new : Sprite) → new ≡ value (sprite_of r l t (y_of r vram t)) vram → AsRead r new → drawn < 4 → Settled r vram l all (set sprites drawn new) (drawn + 1) (bit_and left (left - 1))
       settled-draw new e read few =

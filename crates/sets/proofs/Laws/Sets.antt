@@ -78,3 +78,5 @@ module _ {r vram sets : List ℕ} {n : ℕ} (begun : Begun r vram sets n) where
 
   pub begun-end : (n ≡ 32) ⊎ (eqb (y_of r vram n) 208 ≡ true) → Sets r vram sets
   begun-end end = record { long = begun.long; line = λ l low m h. begun.line l low m ∙ ap (λ (b : Bool). b && covers r l (y_of r vram m)) (sym (ended end m h)) }
+
+pub ruleset ends = (begun-end)

@@ -1,5 +1,5 @@
 -- A list that is filled part by part from the front.
-use Rattle.std.proofs.Common.{◌≡◌, ℕ, ◌+◌, ◌-◌, List, [], ◌++◌, length, take, drop, sym, refl, ap, ◌∙◌, append_assoc, arith, length-append, take_all, take_at}
+use Rattle.std.proofs.Common.{◌≡◌, ℕ, ◌+◌, List, [], ◌++◌, length, take, drop, sym, refl, ap, ◌∙◌, append_assoc, arith, length-append, take_all, take_at}
 use Rattle.chip.specs.Lists.{put_at}
 use Rattle.chip.specs.TwoBytes.{low_first}
 use Rattle.chip.specs.Layout.{encoded}
@@ -17,16 +17,16 @@ put_front at bytes l p {n} front hp hb =
 
 -- The four parts of a snapshot, put in one after another, are the snapshot.
 module _ (c : Chip) (eight : length c.registers ≡ 8) (vram : List ℕ) (long : length vram ≡ 16384) where
-  pub filled : (l₀ : List ℕ) {l₁ l₂ l₃ l₄ : List ℕ} {t x : ℕ} → t ≡ 16398 → l₁ ≡ put_at (t - 16398) vram l₀ → l₂ ≡ put_at (t - 14) (encoded c) l₁ → l₃ ≡ put_at t pointers l₂ → x ≡ checksum (take (t + 6) l₃) → l₄ ≡ put_at (t + 6) (low_first x) l₃ → length l₄ ≡ 16406 → l₄ ≡ snapshot_of c vram
+  pub filled : (l₀ : List ℕ) {l₁ l₂ l₃ l₄ : List ℕ} {x : ℕ} → l₁ ≡ put_at 0 vram l₀ → l₂ ≡ put_at 16384 (encoded c) l₁ → l₃ ≡ put_at 16398 pointers l₂ → x ≡ checksum (take 16404 l₃) → l₄ ≡ put_at 16404 (low_first x) l₃ → length l₄ ≡ 16406 → l₄ ≡ snapshot_of c vram
   unfolding snapshot_of
-  filled l₀ {l₁} {l₂} {l₃} {l₄} {t} {x} et e₁ e₂ e₃ ex e₄ whole =
+  filled l₀ {l₁} {l₂} {l₃} {l₄} {x} e₁ e₂ e₃ ex e₄ whole =
       let h₂ = before-trailer c eight vram long in
       let h₃ = before-sum c eight vram long in
-      let f₁ : take 16384 l₁ ≡ vram = rw (e₁, et) (put_front 0 vram l₀ [] refl refl long) in
-      let f₂ : take 16398 l₂ ≡ vram ++ encoded c = rw (e₂, et) (put_front 16384 (encoded c) l₁ vram f₁ long (length-encoded c eight)) in
-      let f₃ : take 16404 l₃ ≡ (vram ++ encoded c) ++ pointers = rw (e₃, et) (put_front 16398 pointers l₂ (vram ++ encoded c) f₂ h₂ refl) in
-      let f₄ : take 16406 l₄ ≡ ((vram ++ encoded c) ++ pointers) ++ low_first x = rw (e₄, et) (put_front 16404 (low_first x) l₃ ((vram ++ encoded c) ++ pointers) f₃ h₃ refl) in
-      let total : x ≡ checksum (summed c vram) = rw et at ex ∙ ap checksum (f₃ ∙ append_assoc vram (encoded c) pointers) in
+      let f₁ : take 16384 l₁ ≡ vram = rw e₁ (put_front 0 vram l₀ [] refl refl long) in
+      let f₂ : take 16398 l₂ ≡ vram ++ encoded c = rw e₂ (put_front 16384 (encoded c) l₁ vram f₁ long (length-encoded c eight)) in
+      let f₃ : take 16404 l₃ ≡ (vram ++ encoded c) ++ pointers = rw e₃ (put_front 16398 pointers l₂ (vram ++ encoded c) f₂ h₂ refl) in
+      let f₄ : take 16406 l₄ ≡ ((vram ++ encoded c) ++ pointers) ++ low_first x = rw e₄ (put_front 16404 (low_first x) l₃ ((vram ++ encoded c) ++ pointers) f₃ h₃ refl) in
+      let total : x ≡ checksum (summed c vram) = ex ∙ ap checksum (f₃ ∙ append_assoc vram (encoded c) pointers) in
       sym (take_all 16406 l₄ (omega arith))
       ∙ f₄
       ∙ regroup vram (encoded c) pointers (low_first x)

@@ -22,6 +22,8 @@ module _ (s : List ℕ) (whole : length s ≡ 16406) where
   unfolding vram_bytes
   length-vram = length_part s (trailer_at s - 16398) 16384 (omega arith)
 
+pub ruleset parts = (length-state, length-vram)
+
 -- what stands before the trailer, and before the sum, of a state's snapshot
 module _ (c : Chip) (eight : length c.registers ≡ 8) (vram : List ℕ) (long : length vram ≡ 16384) where
   pub before-trailer : length (vram ++ encoded c) ≡ 16398

@@ -1,12 +1,16 @@
 -- Every address of a sprite is below 16,384: it is a place within its table.
-use Rattle.std.proofs.Common.{◌≡◌, ℕ, ◌+◌, ◌-◌, ◌*◌, ◌%◌, ◌<◌, ◌≤◌, Bool, true, false, cond, List, arith, ltb-true}
+use Rattle.std.proofs.Common.{◌≡◌, ℕ, ◌+◌, ◌-◌, ◌*◌, ◌%◌, ◌<◌, ◌≤◌, Bool, true, false, cond, List, arith, lit<, ltb-true}
 use Rattle.chip.specs.Modes.{large_sprites, magnified}
-use Rattle.chip.specs.State.{vram_size, masked}
+use Rattle.chip.specs.State.{vram_size, register, masked}
 use Rattle.chip.specs.Tables.{attributes, sprite_patterns}
 use Rattle.chip.specs.declared.mode.Mode.TheVariants.{GraphicsI}
-use Rattle.chip.proofs.Laws.Tables.{inside}
+use Rattle.chip.proofs.Laws.Tables.{at-most-mask, inside}
 use Rattle.sprites.specs.Shape.{scaled, row_offset, covers}
 use Rattle.sprites.specs.Scan.{attribute_address, sprite_pattern_address}
+
+-- the attribute table's register
+pub attributes-low : (r : List ℕ) → masked r ≡ true → register 5 r < 128
+attributes-low r ok = omega (arith, at-most-mask r ok 5 (lit< tt))
 
 pub attribute-inside : (r : List ℕ) → masked r ≡ true → (n k : ℕ) → n < 32 → k < 4 → attribute_address r n k < vram_size
 attribute-inside r ok n k hn hk = inside GraphicsI attributes r ok _ (omega arith)
@@ -33,6 +37,5 @@ pub pattern-inside : (r : List ℕ) → masked r ≡ true → (l y name : ℕ) �
 unfolding sprite_pattern_address
 pattern-inside r ok l y name cov hn = omega (arith, inside GraphicsI sprite_patterns r ok _ (pattern-place r l y name cov hn))
 
-pub scaled-le : (m : Bool) (d : ℕ) → scaled m d ≤ d
-scaled-le true d = omega arith
-scaled-le false d = omega arith
+-- where a sprite's bytes stand
+pub ruleset addresses = (attributes-low, pattern-inside)

@@ -48,3 +48,5 @@ module _ (r : List ℕ) (s : Sprite) (c : ℕ) where
 
     pub bit-small : scaled (magnified r) (c - s.first) < 16
     bit-small = omega (arith, halves (large_sprites r), row_small (large_sprites r) (magnified r) (c - s.first) (omega arith))
+
+pub ruleset columns = (hits-left, hits-right, hits-in)

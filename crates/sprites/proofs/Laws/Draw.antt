@@ -3,7 +3,7 @@ use Rattle.std.proofs.Common.{◌≡◌, ℕ, suc, ◌+◌, ◌-◌, ◌<◌, �
 use Rattle.std.proofs.lemmas.List.{get_or_default}
 use Rattle.chip.specs.Lists.{tabulate}
 use Rattle.chip.specs.Ranges.{any_below}
-use Rattle.chip.proofs.Laws.Lists.{tabulated, tabulate-same, length-tabulate, get_d_tabulate}
+use Rattle.chip.proofs.Laws.Lists.{tabulated, tabulate-same, get_d_tabulate}
 use Rattle.chip.proofs.Laws.Ranges.{none-holds, any-or}
 use Rattle.planes.specs.Pixel.{over, first_non_zero}
 use Rattle.planes.specs.Origin.{in_front, frontmost}
@@ -11,8 +11,7 @@ use Rattle.planes.specs.declared.origin.Origin.TheVariants as origin
 use Rattle.planes.specs.declared.origin.Pixel.{Pixel}
 use Rattle.sprites.specs.Pixels.{visible, hits, sprite_colours, numbered_colours, any_hits, meet, reach, coincidence}
 use Rattle.sprites.specs.Codes.{first_number}
-use Rattle.sprites.specs.Scanned.{no_sprite, AsRead, Held}
-use Rattle.sprites.specs.declared.scan.Scan.{Scan}
+use Rattle.sprites.specs.Held.{no_sprite, AsRead, Held}
 use Rattle.sprites.specs.declared.sprite.Sprite.{Sprite}
 
 -- where a sprite has a colour, it is its own
@@ -34,9 +33,6 @@ over_none e =
     }
 
 module _ {r : List ℕ} {l : List Sprite} {old line : List ℕ} {met : Bool} (o : Over r l old line met) where
-  pub line-long : length line ≡ 256
-  line-long = ap length o.shown ∙ length-tabulate 256 _
-
   -- the next lower sprite
   pub over-one : (s : Sprite) {new : List ℕ} {m : Bool} → new ≡ tabulate 256 (λ x. cond (eqb (cond (hits r s (visible x)) s.colour 0) 0) (get_or line x 0) s.colour) → m ≡ any_below reach (λ c. hits r s c && any_hits r l c) → Over r (s ∷ l) old new (m || met)
   unfolding coincidence
@@ -70,10 +66,10 @@ pub none-higher : (sprites : List Sprite) (n : ℕ) → n ≤ length sprites →
 none-higher sprites n room = drop_of_length-le (take n sprites) {i = n} (omega (arith, length-take-le n sprites room))
 
 -- each of those that a scan found, from k on
-pub held-from : {r : List ℕ} {scan : Scan} → Held r scan → (k j : ℕ) (d : Sprite) → j < length (drop k (take scan.drawn scan.sprites)) → AsRead r (get_or (drop k (take scan.drawn scan.sprites)) j d)
-held-from {r} {scan} held k j d h =
-    let long : length (take scan.drawn scan.sprites) ≡ scan.drawn = length-take-le scan.drawn scan.sprites (omega (arith, held.room, held.few)) in
-    let low : k + j < scan.drawn = omega (arith, length-drop k (take scan.drawn scan.sprites)) in
-    let same : get_or (drop k (take scan.drawn scan.sprites)) j d ≡ get_or scan.sprites (k + j) no_sprite =
-    get_or-drop k (take scan.drawn scan.sprites) j d ∙ get_or-take scan.drawn scan.sprites (k + j) d low ∙ get_or_default scan.sprites (k + j) d no_sprite (omega (arith, held.room, held.few)) in
+pub held-from : {r : List ℕ} {sprites : List Sprite} {drawn : ℕ} → Held r sprites drawn → (k j : ℕ) (d : Sprite) → j < length (drop k (take drawn sprites)) → AsRead r (get_or (drop k (take drawn sprites)) j d)
+held-from {r} {sprites} {drawn} held k j d h =
+    let long : length (take drawn sprites) ≡ drawn = length-take-le drawn sprites (omega (arith, held.room, held.few)) in
+    let low : k + j < drawn = omega (arith, length-drop k (take drawn sprites)) in
+    let same : get_or (drop k (take drawn sprites)) j d ≡ get_or sprites (k + j) no_sprite =
+    get_or-drop k (take drawn sprites) j d ∙ get_or-take drawn sprites (k + j) d low ∙ get_or_default sprites (k + j) d no_sprite (omega (arith, held.room, held.few)) in
     rw same (held.as_read (k + j) (omega (arith, held.few)))

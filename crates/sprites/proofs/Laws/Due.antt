@@ -67,3 +67,9 @@ module _ (r : List ℕ) (l : ℕ) (vram map : List ℕ) where
     pub sprite-dirty : any_dirty map (fetched (sprite_of r l n y) vram) ≡ (is_dirty map (attribute_address r n 1) || (is_dirty map (attribute_address r n 2) || (is_dirty map (attribute_address r n 3) || (is_dirty map at || large_sprites r && is_dirty map (at + 16)))))
     unfolding fetched sprite_of
     sprite-dirty = ap (λ (b : Bool). is_dirty map (attribute_address r n 1) || (is_dirty map (attribute_address r n 2) || (is_dirty map (attribute_address r n 3) || (is_dirty map at || b)))) (second (large_sprites r) _ _)
+
+-- what a scan's step does to the bytes that are dirty
+pub ruleset steps = (at-end, y-dirty, at-terminator, not-covering, at-fifth, drawn)
+
+-- which bytes a drawn sprite has
+pub ruleset of_sprite = (sprite-dirty)

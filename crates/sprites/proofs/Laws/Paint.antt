@@ -1,5 +1,5 @@
 -- A line that a loop goes over column by column, from 32 left of the screen, and what a sprite paints in a column.
-use Rattle.std.proofs.Common.{◌≡◌, ℕ, ◌+◌, ◌-◌, ◌<◌, ◌≤◌, Bool, true, false, cond, eqb, List, length, get_or, set, sym, refl, ap, ◌∙◌, arith, length-set, get_or-set_other, get_or-set_same, eq-eqb, ne_eqb}
+use Rattle.std.proofs.Common.{◌≡◌, ℕ, ◌<◌, ◌≤◌, Bool, true, false, cond, eqb, List, length, get_or, sym, refl, ◌∙◌, arith, eq-eqb, ne_eqb}
 use native.Mathlib.Decide.{dec_lt}
 use Rattle.chip.specs.Lists.{tabulate}
 use Rattle.chip.proofs.Laws.Lists.{tabulated}
@@ -13,21 +13,6 @@ pub record Swept (new old : List ℕ) (f : ℕ → ℕ → ℕ) (c : ℕ) : Type
 
 pub swept_none : {old : List ℕ} {f : ℕ → ℕ → ℕ} {c : ℕ} → length old ≡ 256 → ((x : ℕ) → visible x < c → (o : ℕ) → f x o ≡ o) → Swept old old f c
 swept_none {old} e keeps = record { long = e; done = λ x h below. sym (keeps x below (get_or old x 0)); rest = λ x h above. refl }
-
-pub swept-more : {new old : List ℕ} {f : ℕ → ℕ → ℕ} {c : ℕ} (v : ℕ) → 32 ≤ c → c < 288 → v ≡ f (c - 32) (get_or new (c - 32) 0) → Swept new old f c → Swept (set new (c - 32) v) old f (c + 1)
-swept-more {new} {old} {f} {c} v low high e s =
-    record {
-      long = length-set new (c - 32) v ∙ s.long;
-      done = λ x h below. by x h below (dec_lt (visible x) c);
-      rest = λ x h above. get_or-set_other new (c - 32) x v 0 (omega arith) ∙ s.rest x h (omega arith);
-    }
-  where
-    by : (x : ℕ) → x < 256 → visible x < c + 1 → Dec (visible x < c) → get_or (set new (c - 32) v) x 0 ≡ f x (get_or old x 0)
-    by x h below (yes before) = get_or-set_other new (c - 32) x v 0 (omega arith) ∙ s.done x h before
-    by x h below (no here) =
-        let same : c - 32 ≡ x = omega arith in
-        let room : x < length new = omega (arith, s.long) in
-        rw same (get_or-set_same new x v 0 room ∙ rw same at e ∙ ap (f x) (s.rest x h (omega arith)))
 
 pub swept_all : {new old : List ℕ} {f : ℕ → ℕ → ℕ} {c : ℕ} → ((x : ℕ) → x < 256 → c ≤ visible x → (o : ℕ) → f x o ≡ o) → Swept new old f c → new ≡ tabulate 256 (λ x. f x (get_or old x 0))
 swept_all {new} {old} {f} {c} keeps s = tabulated s.long (λ x h. by x h (dec_lt (visible x) c))
@@ -46,3 +31,5 @@ clear-column false colour old value e = refl
 pub coloured-column : (b : Bool) (colour old value : ℕ) → (colour ≡ 0 → ⊥) → cond b value old ≡ cond (eqb (cond b colour 0) 0) old value
 coloured-column true colour old value n = rw (ne_eqb colour 0 n)
 coloured-column false colour old value n = refl
+
+pub ruleset painting = (tabulated, clear-column, coloured-column)

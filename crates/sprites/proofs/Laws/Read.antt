@@ -6,7 +6,7 @@ use Rattle.chip.specs.Modes.{large_sprites}
 use Rattle.fetches.specs.Fetch.{answer, fetch, value}
 use Rattle.sprites.specs.Pixels.{visible}
 use Rattle.sprites.specs.Scan.{attribute_address, sprite_pattern_address, sprite_by, sprite_of, scan_of}
-use Rattle.sprites.specs.Scanned.{AsRead}
+use Rattle.sprites.specs.Held.{AsRead}
 use Rattle.sprites.specs.declared.sprite.Sprite.{Sprite}
 use Rattle.sprites.proofs.Laws.Found.{scan-finds}
 

@@ -10,7 +10,7 @@ use Rattle.chip.proofs.Laws.Ranges.{any_same}
 use Rattle.sprites.specs.Shape.{bit_width, scaled}
 use Rattle.sprites.specs.Pixels.{hits}
 use Rattle.sprites.specs.Rows.{RowFrom}
-use Rattle.sprites.specs.Scanned.{AsRead}
+use Rattle.sprites.specs.Held.{AsRead}
 use Rattle.sprites.specs.declared.sprite.Sprite.{Sprite}
 use Rattle.sprites.proofs.Laws.Columns.{halves}
 
@@ -90,3 +90,5 @@ pub rows-meet : (r : List ℕ) (a b : Sprite) (c v w : ℕ) → v < 2 ^ 16 → R
 rows-meet r a b c v w small one other =
     let low : bit_and v w < 2 ^ 16 = omega (arith, and_le_l v w) in
     sym (any-bit 16 (bit_and v w) low) ∙ any_same 16 _ _ (λ k h. bit-and (15 - k) v w ∙ ap₂ ◌&&◌ (one k h) (other k h))
+
+pub ruleset rows = (row-shifted, row-past)

@@ -6,7 +6,7 @@ use Rattle.fetches.specs.Fetch.{answer, value, followed}
 use Rattle.fetches.proofs.Laws.{value-followed}
 use Rattle.sprites.specs.Shape.{covers}
 use Rattle.sprites.specs.Scan.{attribute_address, sprite_of, Found, found, seen, scan_from, scan_of}
-use Rattle.sprites.specs.Scanned.{no_sprite, AsRead, Scanned}
+use Rattle.sprites.specs.Held.{no_sprite, AsRead, Held}
 use Rattle.sprites.specs.declared.scan.Ended.{Ended}
 use Rattle.sprites.specs.declared.scan.Ended.TheVariants.{Terminator, Fifth, All}
 use Rattle.sprites.specs.declared.sprite.Sprite.{Sprite}
@@ -62,19 +62,20 @@ one_more a k s h = rw add-one (take-suc-set a k s h)
 
 -- A scan under way: n sprites were seen and drawn of them stand in the array; what is found in all is those and the rest.
 pub record Going (r : List ℕ) (l : ℕ) (vram : List ℕ) (sprites : List Sprite) (drawn n : ℕ) : Type 0 where
-  pub few : drawn ≤ 4
+  pub held : Held r sprites drawn
   pub up : n ≤ 32
-  pub room : length sprites ≡ 4
-  pub as_read : (k : ℕ) → k < 4 → AsRead r (get_or sprites k no_sprite)
   pub all : value (scan_of r l) vram ≡ after (take drawn sprites) (rest r l vram n drawn)
 
 pub going_start : {r : List ℕ} {l : ℕ} {vram : List ℕ} {sprites : List Sprite} → sprites ≡ replicate 4 no_sprite → Going r l vram sprites 0 0
 going_start e =
     record {
-      few = omega arith;
+      held =
+          record {
+            room = ap length e ∙ length-replicate {A = Sprite} 4 no_sprite;
+            few = omega arith;
+            as_read = λ k h. rw (e, get_or-replicate 4 k no_sprite no_sprite h) (record { near = omega arith; left_half = λ _. refl });
+          };
       up = omega arith;
-      room = ap length e ∙ length-replicate {A = Sprite} 4 no_sprite;
-      as_read = λ k h. rw (e, get_or-replicate 4 k no_sprite no_sprite h) (record { near = omega arith; left_half = λ _. refl });
       all = refl;
     }
 
@@ -88,29 +89,32 @@ as-read-set r sprites i s room new old k h = by (ℕ_discrete k i)
 module _ {r : List ℕ} {l : ℕ} {vram : List ℕ} {sprites : List Sprite} {drawn n : ℕ} (g : Going r l vram sprites drawn n) where
   -- sprite n does not cover the line
   pub going_on : n < 32 → rest r l vram n drawn ≡ rest r l vram (n + 1) drawn → Going r l vram sprites drawn (n + 1)
-  going_on h e = record { few = g.few; up = omega arith; room = g.room; as_read = g.as_read; all = g.all ∙ ap (after (take drawn sprites)) e }
+  going_on h e = record { held = g.held; up = omega arith; all = g.all ∙ ap (after (take drawn sprites)) e }
 
   -- it does, and is drawn
   pub going-draw : (s : Sprite) → AsRead r s → n < 32 → drawn < 4 → rest r l vram n drawn ≡ found s (rest r l vram (n + 1) (drawn + 1)) → Going r l vram (set sprites drawn s) (drawn + 1) (n + 1)
   going-draw s read h few e =
       record {
-        few = omega arith;
+        held =
+            record {
+              room = length-set sprites drawn s ∙ g.held.room;
+              few = omega arith;
+              as_read = as-read-set r sprites drawn s (rw g.held.room few) read g.held.as_read;
+            };
         up = omega arith;
-        room = length-set sprites drawn s ∙ g.room;
-        as_read = as-read-set r sprites drawn s (rw g.room few) read g.as_read;
         all =
             g.all
             ∙ ap (after (take drawn sprites)) e
             ∙ sym (after_one (take drawn sprites) s (rest r l vram (n + 1) (drawn + 1)))
-            ∙ ap (λ (a : List Sprite). after a (rest r l vram (n + 1) (drawn + 1))) (sym (one_more sprites drawn s (rw g.room few)));
+            ∙ ap (λ (a : List Sprite). after a (rest r l vram (n + 1) (drawn + 1))) (sym (one_more sprites drawn s (rw g.held.room few)));
       }
 
   -- the scan ends
-  pub going_end : (e : Ended) → rest r l vram n drawn ≡ record { sprites = []; ended = e } → Scanned r (record { sprites = sprites; drawn = drawn; ended = e }) (value (scan_of r l) vram)
-  going_end e stop =
-      let whole = g.all ∙ ap (after (take drawn sprites)) stop in
-      record {
-        held = record { room = g.room; few = g.few; as_read = g.as_read };
-        sprites = sym (ap (λ (f : Found). f.sprites) whole ∙ append-nil (take drawn sprites));
-        ended = sym (ap (λ (f : Found). f.ended) whole);
-      }
+  pub going_end : (e : Ended) → rest r l vram n drawn ≡ record { sprites = []; ended = e } → value (scan_of r l) vram ≡ record { sprites = take drawn sprites; ended = e }
+  going_end e stop = g.all ∙ ap (after (take drawn sprites)) stop ∙ λ i. record { sprites = append-nil (take drawn sprites) i; ended = e }
+
+  pub all-found : (rest r l vram n drawn).sprites ≡ [] → take drawn sprites ≡ (value (scan_of r l) vram).sprites
+  all-found none = sym (ap (λ (f : Found). f.sprites) g.all ∙ ap (λ (f : List Sprite). take drawn sprites ++ f) none ∙ append-nil (take drawn sprites))
+
+-- what a scan's step finds
+pub ruleset steps = (at-end, at-terminator, not-covering, at-fifth, drawn, all-found)

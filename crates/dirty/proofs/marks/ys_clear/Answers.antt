@@ -16,4 +16,4 @@ returns c =
     let a = c.args in
     attribute-bit a.map.now a.from n 0 (lit< tt)
     ∙ sym (ap (bit (4 * (n % 2) + 0)) (sliced a.map.now a.from 16 (n / 2) (omega arith)))
-    ∙ c.bits_of.ensures.lacks (4 * (n % 2) + 0) (n / 2) (omega (arith, slice-long a.map.now a.from 16 c.requires)) (apart_from (4 * (n % 2) + 0) c.bits_of.result 17 (eqb-true _ _ clear) (y-bits (n % 2) (omega arith)))
+    ∙ c.bits_of.ensures.lacks (4 * (n % 2) + 0) (n / 2) (omega (arith, slice-long a.map.now a.from 16 (omega (arith, c.told-map)))) (apart_from (4 * (n % 2) + 0) c.bits_of.result 17 (eqb-true _ _ clear) (y-bits (n % 2) (omega arith)))

@@ -10,4 +10,4 @@ returns-then-not-part_dirty c =
     λ clear l vram bytes.
     let a = c.args in
     let attributes = clean-part a.map.now c.attributes_from.result 16 c.part_dirty.ensures (ap not c.if-not-part_dirty.true) in
-    all-clear a.r l vram a.map.now bytes (rw c.attributes_from.ensures.0 at attributes) (c.patterns_clear.ensures clear)
+    all-clear a.screen.registers l vram a.map.now bytes (rw c.attributes_from.ensures.0 at attributes) (c.patterns_clear.ensures clear)

@@ -16,23 +16,17 @@ without_count : (r : Outcome) (n : ℕ) → result_and {U = ℕ} (giving r n) (O
 without_count (Ok x) n = refl
 without_count (Err e) n = refl
 
-pub returns-clause-value : goal.returns-clause-value
-returns-clause-value c =
+pub returns : goal.returns
+returns c =
     let a = c.args in
-    let notes = refreshed-notes (clean-while-redraw a.chip.registers a.vram.now a.map.now a.frame.now a.notes.now) in
+    let drawn = c.draw_due-answer.ensures in
     let refusal : Outcome = draw_refusal a.chip a.vram.now a.map.now a.frame.now a.notes.now in
-    let state = ap (λ (y : Answer). y.chip) c.draw_due-answer.ensures.value ∙ ap (λ (l : List ℕ). if_accepted refusal (drawn_state a.chip l) a.chip) notes in
-    let none = c.and.ensures ∙ ap (λ (y : Answer). result_and {U = ℕ} y.result (Ok 0)) c.draw_due-answer.ensures.value ∙ without_count refusal _ in
-    λ i. record { chip = state i; result = none i }
-
-pub returns-clause-frame_after : goal.returns-clause-frame_after
-returns-clause-frame_after c =
-    let a = c.args in
-    let refusal : Outcome = draw_refusal a.chip a.vram.now a.map.now a.frame.now a.notes.now in
-    c.draw_due-answer.ensures.frame_after ∙ ap (λ (l : List ℕ). if_accepted refusal l a.frame.now) (refreshed-frame (clean-while-redraw a.chip.registers a.vram.now a.map.now a.frame.now a.notes.now))
-
-pub returns-clause-notes_after : goal.returns-clause-notes_after
-returns-clause-notes_after c =
-    let a = c.args in
-    let refusal : Outcome = draw_refusal a.chip a.vram.now a.map.now a.frame.now a.notes.now in
-    c.draw_due-answer.ensures.notes_after ∙ ap (λ (l : List ℕ). if_accepted refusal l a.notes.now) (refreshed-notes (clean-while-redraw a.chip.registers a.vram.now a.map.now a.frame.now a.notes.now))
+    let clean = clean-while-redraw a.chip.registers a.vram.now a.map.now a.frame.now a.notes.now in
+    let state = ap (λ (y : Answer). y.chip) drawn.value ∙ ap (λ (l : List ℕ). if_accepted refusal (drawn_state a.chip l) a.chip) (refreshed-notes clean) in
+    let count = c.and.ensures ∙ ap (λ (y : Answer). result_and {U = ℕ} y.result (Ok 0)) drawn.value ∙ without_count refusal _ in
+    record {
+      value = λ i. record { chip = state i; result = count i };
+      map_after = drawn.map_after;
+      frame_after = drawn.frame_after ∙ ap (λ (l : List ℕ). if_accepted refusal l a.frame.now) (refreshed-frame clean);
+      notes_after = drawn.notes_after ∙ ap (λ (l : List ℕ). if_accepted refusal l a.notes.now) (refreshed-notes clean);
+    }

@@ -1,4 +1,4 @@
--- `due_rows` meets its contract.
+-- `due_rows` meets its contract. (Each return unfolds `due`: by `using` and `unfolding` on the function the first two stay open.)
 use mathlib.Core.Path.{sym, ◌∙◌}
 use mathlib.Core.Bool.{true, false}
 use Rattle.chip.proofs.Laws.Bits.{bit-zero, full-bit}

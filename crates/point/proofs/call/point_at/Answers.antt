@@ -1,5 +1,5 @@
 -- `point_at` meets its contract.
-use Rattle.std.proofs.Common.{arith}
+use Rattle.std.proofs.Common.{length, arith}
 use mathlib.Core.Path.{sym, ◌∙◌}
 use borrow.Author.Tests.{eq-eqb, le-leb}
 use Rattle.chip.proofs.Laws.State.{masked-in}
@@ -11,5 +11,5 @@ new-screen-requires c = grind (arith, masked-in)
 
 pub returns : goal.returns
 returns c =
-    rw (eq-eqb _ _ c.if-vram-ne16384.false, sym c.is_well_formed.ensures ∙ c.if-not-is_well_formed.false, le-leb _ _ c.if-line-gt191.false, le-leb _ _ c.if-column-gt255.false)
+    rw (eq-eqb (length c.args.vram.now) 16384 c.in-Some.ensures.cases.long, sym c.is_well_formed.ensures ∙ c.if-not-is_well_formed.false, le-leb _ _ c.if-line-gt191.false, le-leb _ _ c.if-column-gt255.false)
     (grind (arith, pixel-colour))

@@ -1,5 +1,5 @@
 -- `replay` meets its contract.
-use Prim.Native.Nat.{ℕ, ◌-◌, ◌<◌}
+use Prim.Native.Nat.{ℕ, ◌-◌}
 use native.Mathlib.Omega.{arith}
 use mathlib.Core.Path.{◌≡◌, sym, ap, ◌∙◌}
 use mathlib.Core.List.{List}
@@ -9,7 +9,7 @@ use Rattle.std.specs.Prelude.{Ok, Err}
 use Rattle.chip.specs.State.{power_up_state}
 use Rattle.chip.specs.Map.{map_size}
 use Rattle.chip.specs.Ports.{cleared_vram}
-use Rattle.chip.specs.Refusals.{is_accepted, giving}
+use Rattle.chip.specs.Refusals.{giving}
 use Rattle.chip.specs.declared.state.Chip.{Chip}
 use Rattle.chip.specs.declared.refusal.Answer.{Answer}
 use Rattle.chip.specs.declared.refusal.Refusal.{Refusal}
@@ -22,7 +22,7 @@ use Rattle.port_log.specs.declared.running.Reached.{Reached}
 use Rattle.port_log.specs.declared.running.Ran.{Ran}
 use Rattle.text.proofs.Laws.Reading.{refusal-given}
 use Rattle.replay.specs.Streams.{snapshot_part, log_part, clear_list, ran, reached, vram_after, refusal_of_run, replay_refusal, snapshot_refusal}
-use Rattle.replay.proofs.Laws.Refused.{too_short, by-snapshot, by-run, refused-writes}
+use Rattle.replay.proofs.Laws.Refused.{too_short, snapshot-refused, by-run, refused-writes}
 use Rattle.replay.proofs.Laws.Accepted.{accepted-writes}
 use Rattle.replay.proofs.streams.replay.Goals as goal
 
@@ -38,8 +38,8 @@ module _ (input : List ℕ) {p : Chip} {a : Answer} (up : p ≡ power_up_state) 
   given : giving (snapshot_refusal input) 0 ≡ a.result
   given = sym (ap (λ (x : Answer). x.result) read)
 
-  snapshot-refused : {r : Refusal} → a.result ≡ Err r → replay_refusal input ≡ Err r
-  snapshot-refused e = let is = refusal-given (snapshot_refusal input) 0 (given ∙ e) in by-snapshot input (ap is_accepted is) ∙ is
+  read-refused : {r : Refusal} → a.result ≡ Err r → replay_refusal input ≡ Err r
+  read-refused e = snapshot-refused input (refusal-given (snapshot_refusal input) 0 (given ∙ e))
 
   module _ {vram : List ℕ} (kept : vram ≡ read_vram cleared_vram (snapshot_part input)) where
     ran-from : {r : Ran} → r ≡ run_log a.chip vram (clear_list map_size) (clear_list line_size) (take (length input - 16406) (drop 16406 input)) → r ≡ ran input
@@ -64,36 +64,24 @@ module _ (input : List ℕ) {p : Chip} {a : Answer} (up : p ≡ power_up_state) 
 
 pub returns-then-input-lt16406 : goal.returns-then-input-lt16406
 returns-then-input-lt16406 c =
-    let a = c.args in
-    let input : List ℕ = a.input.now in
-    let short : length input < 16406 = omega arith in
-    let e = too_short input short in
-    let w = refused-writes input SnapshotLength (by-snapshot input (ap is_accepted e) ∙ e) c.refuse.ensures.value a.output.now a.errors.now c.refuse.ensures.errors_after in
-    record { value = w.0; output_after = w.1.0; errors_after = w.1.1 }
+    refused-writes c.args.input.now SnapshotLength (too_short c.args.input.now c.if-input-lt16406.true) c.refuse.ensures.value c.args.output.now c.args.errors.now c.refuse.ensures.errors_after
 
 pub returns-in-Err : goal.returns-in-Err
 returns-in-Err c =
-    let a = c.args in
-    let input : List ℕ = a.input.now in
-    let is = snapshot-refused input c.power_up_state.ensures c.read-answer.ensures.value c.in-Err.is in
-    let w = refused-writes input c.in-Err.refusal is c.refuse-in-Err.ensures.value a.output.now a.errors.now c.refuse-in-Err.ensures.errors_after in
-    record { value = w.0; output_after = w.1.0; errors_after = w.1.1 }
+    let is = read-refused c.args.input.now c.power_up_state.ensures c.read-answer.ensures.value c.in-Err.is in
+    refused-writes c.args.input.now c.in-Err.refusal is c.refuse-in-Err.ensures.value c.args.output.now c.args.errors.now c.refuse-in-Err.ensures.errors_after
 
 pub returns-in-Err-result : goal.returns-in-Err-result
 returns-in-Err-result c =
-    let a = c.args in
-    let input : List ℕ = a.input.now in
+    let input : List ℕ = c.args.input.now in
     let run = ran-from input c.power_up_state.ensures c.read-answer.ensures.value c.read-answer.ensures.vram_after c.run-ran.ensures.value in
     let is = run-refused input c.power_up_state.ensures c.read-answer.ensures.value c.in_default.is run c.in-Err-result.is in
-    let w = refused-writes input c.in-Err-result.refusal is c.refuse-in-Err-result.ensures.value a.output.now a.errors.now c.refuse-in-Err-result.ensures.errors_after in
-    record { value = w.0; output_after = w.1.0; errors_after = w.1.1 }
+    refused-writes input c.in-Err-result.refusal is c.refuse-in-Err-result.ensures.value c.args.output.now c.args.errors.now c.refuse-in-Err-result.ensures.errors_after
 
 pub returns-in-Ok : goal.returns-in-Ok
 returns-in-Ok c =
-    let a = c.args in
-    let input : List ℕ = a.input.now in
+    let input : List ℕ = c.args.input.now in
     let run = ran-from input c.power_up_state.ensures c.read-answer.ensures.value c.read-answer.ensures.vram_after c.run-ran.ensures.value in
     let left = vram-from input c.power_up_state.ensures c.read-answer.ensures.value c.read-answer.ensures.vram_after c.run-ran.ensures.vram_after in
     let is = run-accepted input c.power_up_state.ensures c.read-answer.ensures.value c.in_default.is run c.in-Ok.is in
-    let w = accepted-writes input (λ i. omega (arith, (c.type_inv.input i).fits)) is a.output.now a.errors.now (omega (arith, c.told-output)) run c.in-Ok.is left c.put_report.ensures.value c.write.ensures.out_after c.put_report.ensures.out_after in
-    record { value = w.0; output_after = w.1.0; errors_after = w.1.1 }
+    accepted-writes input (λ i. omega (arith, (c.type_inv.input i).fits)) is c.args.output.now c.args.errors.now (omega (arith, c.told-output)) run c.in-Ok.is left c.put_report.ensures.value c.write.ensures.out_after c.put_report.ensures.out_after

@@ -1,22 +1,13 @@
 -- `draw_graphics_one`: the cells before `i` are painted.
-use Prim.Native.Nat.{◌<◌}
 use native.Mathlib.Omega.{arith}
-use mathlib.Core.Path.{◌≡◌, ◌∙◌}
-use lib.Dec.{lit<}
-use lib.ListN.{get_or}
+use mathlib.Core.Path.{◌≡◌}
 use Rattle.chip.specs.declared.mode.Mode.TheVariants.{GraphicsI}
-use Rattle.chip.proofs.Laws.Tables.{at-most-mask}
 use Rattle.rows.proofs.Laws.Cells.{cell-graphics-one}
 use Rattle.rows.proofs.Laws.Paints.{shown}
 use Rattle.rows.proofs.Laws.Plane.{settled-cells, all_settled}
 use Rattle.rows.proofs.Laws.Settled.{settled-none}
 use Rattle.rows.proofs.Laws.Tiles.{tiled-more}
 use Rattle.rows.proofs.draw.draw_graphics_one.Goals as goal
-
-pub paint_patterns-requires : goal.paint_patterns-requires
-paint_patterns-requires c =
-    let name : get_or c.names_from-name-items.result.now c.loop-i.i 0 < 256 = (c.type_inv.name-items c.loop-i.i).fits in
-    (c.loop-i.invariant.long ∙ c.requires.1, omega (arith, c.names_from-name-items.ensures.0), omega (arith, at-most-mask c.args.brush.now.screen.registers c.args.brush.now.screen.obeys_masks 4 (lit< tt)))
 
 pub loop-i-preserved : goal.loop-i-preserved
 loop-i-preserved c = tiled-more GraphicsI (omega (arith, c.names_from-name-items.ensures.0)) (omega arith) c.loop-i.invariant c.paint_patterns.ensures
@@ -32,4 +23,4 @@ returns c =
     (settled-cells GraphicsI r vram a.row
     (rw e at c.loop-i.invariant)
     (λ i k j hi hk hj. rw (names.1 i hi) (shown a.brush.now.paints_are (cell-graphics-one r vram a.row k i hk) (a.brush.now.screen.holds_bytes _) j hj))
-    (settled-none c.requires.1))
+    (settled-none c.told-part))

@@ -1,11 +1,8 @@
 -- `draw_text`: the cells before `i` are painted, and the margin on their left.
-use Prim.Native.Nat.{◌+◌, ◌*◌, ◌<◌}
+use Prim.Native.Nat.{◌+◌, ◌*◌}
 use native.Mathlib.Omega.{arith}
-use mathlib.Core.Path.{◌≡◌, refl, ◌∙◌}
-use lib.Dec.{lit<}
-use lib.ListN.{get_or}
+use mathlib.Core.Path.{◌≡◌, refl}
 use Rattle.chip.specs.declared.mode.Mode.TheVariants.{Text}
-use Rattle.chip.proofs.Laws.Tables.{at-most-mask}
 use Rattle.fetches.specs.Fetch.{value}
 use Rattle.planes.specs.Cells.{plane_of}
 use Rattle.planes.proofs.Laws.Plane.{left-of-cells, right-of-cells}
@@ -15,11 +12,6 @@ use Rattle.rows.proofs.Laws.Settled.{settled-none}
 use Rattle.rows.proofs.Laws.Shown.{word-shown}
 use Rattle.rows.proofs.Laws.Tiles.{tiled-more}
 use Rattle.rows.proofs.draw.draw_text.Goals as goal
-
-pub paint_bytes-requires : goal.paint_bytes-requires
-paint_bytes-requires c =
-    let name : get_or c.names_from-name-items.result.now c.loop-i.i 0 < 256 = (c.type_inv.name-items c.loop-i.i).fits in
-    (c.loop-i.invariant.long ∙ c.paint_blocks.ensures.long ∙ c.requires.2, omega (arith, c.names_from-name-items.ensures.0), omega (arith, at-most-mask c.args.brush.now.screen.registers c.args.brush.now.screen.obeys_masks 4 (lit< tt)), c.requires.1.long)
 
 pub loop-i-preserved : goal.loop-i-preserved
 loop-i-preserved c = tiled-more Text (omega (arith, c.names_from-name-items.ensures.0)) (omega arith) c.loop-i.invariant c.paint_bytes.ensures
@@ -33,7 +25,7 @@ returns c =
     let e : c.loop-i.i ≡ 40 = omega (arith, names.0) in
     let left = settled-margin Text r vram a.row {at = 0} a.brush.now.paints_are
     (λ k j hk hj. left-of-cells Text (value (plane_of Text r (8 * a.row + k)) vram) (0 + j) (omega arith))
-    (settled-none c.requires.2)
+    (settled-none c.told-part)
     c.paint_blocks.ensures in
     let cells = settled-cells Text r vram a.row
     (rw e at c.loop-i.invariant)

@@ -5,7 +5,7 @@ use Rattle.rows.proofs.line.draw_plane_line.Goals as goal
 
 pub returns-in-Blank : goal.returns-in-Blank
 returns-in-Blank c =
-    let filled = rw (c.behind_planes.ensures, c.requires.1) at (c.fill.ensures.after (λ y e. e)) in
+    let filled = rw (c.behind_planes.ensures, c.told-line) at (c.fill.ensures.after (λ y e. e)) in
     rw c.in-Blank.is (blank_part 256 c.args.brush.now.screen.registers c.args.brush.now.screen.vram.now (λ x. c.args.l) (λ x. x) filled)
 
 pub returns-in-GraphicsI : goal.returns-in-GraphicsI

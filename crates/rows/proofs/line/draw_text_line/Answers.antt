@@ -12,9 +12,9 @@ pub draw_line_cells-requires : goal.draw_line_cells-requires
 draw_line_cells-requires c =
     let left = line-margin Text c.args.brush.now.screen.registers c.args.brush.now.screen.vram.now c.args.l {at = 0} c.args.brush.now.paints_are
     (λ j h. left-of-cells Text (value (plane_of Text c.args.brush.now.screen.registers c.args.l) c.args.brush.now.screen.vram.now) (0 + j) (omega arith))
-    (line-none c.requires.1)
+    (line-none c.told-line)
     c.put_word.ensures in
-    (c.requires.0, left)
+    (c.requires, left)
 
 pub returns : goal.returns
 returns c =

@@ -1,6 +1,5 @@
 -- `put_by`: the first `i` bytes are put in.
 use native.Mathlib.Omega.{arith}
-use mathlib.Core.Path.{refl}
 use Rattle.scenes.proofs.Laws.Put.{put-none, told_more, told-all}
 use Rattle.scenes.proofs.put.put_by.Goals as goal
 

@@ -13,8 +13,8 @@ loop-s-preserved c =
     let a = c.args in
     let l = c.next.new.self.iter.rest.now in
     let shown = rw c.colour_at-colour.ensures at c.in_front-pixel.ensures in
-    ap (frontmost (numbered_colours a.r l (visible a.x))) shown
-    ∙ sym (last-pixel a.r l c.in-Some.s.now (visible a.x) c.loop-s.pixel)
+    ap (frontmost (numbered_colours a.scan.registers l (visible a.x))) shown
+    ∙ sym (last-pixel a.scan.registers l c.in-Some.s.now (visible a.x) c.loop-s.pixel)
     ∙ rw c.in-Some.ensures.steps at c.loop-s.invariant
 
 pub returns : goal.returns

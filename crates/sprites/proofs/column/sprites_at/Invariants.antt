@@ -6,5 +6,5 @@ use Rattle.sprites.proofs.column.sprites_at.Given as goal
 
 abbrev pub invariant-loop-s : goal.invariant-loop-s
 invariant-loop-s l =
-    frontmost (numbered_colours l.r l.s-iterator.iter.rest.now (visible l.x)) l.pixel
-    ≡ frontmost (numbered_colours l.r l.initial.s-iterator.iter.rest.now (visible l.x)) l.initial.pixel
+    frontmost (numbered_colours l.fn.scan.registers l.s-iterator.iter.rest.now (visible l.x)) l.pixel
+    ≡ frontmost (numbered_colours l.fn.scan.registers l.initial.s-iterator.iter.rest.now (visible l.x)) l.initial.pixel

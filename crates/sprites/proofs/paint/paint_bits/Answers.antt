@@ -8,7 +8,7 @@ use Rattle.sprites.proofs.paint.paint_bits.Goals as goal
 pub loop-c-init : goal.loop-c-init
 loop-c-init c =
     let a = c.args in
-    swept_none c.requires (λ x below o. rw (hits-left a.r a.s (visible x) (omega (arith, c.first_visible-c.ensures))))
+    swept_none c.told-line (λ x below o. rw (hits-left a.r a.s (visible x) (omega (arith, c.first_visible-c.ensures))))
 
 pub returns : goal.returns
 returns c =

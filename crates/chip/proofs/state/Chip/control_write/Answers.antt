@@ -1,7 +1,7 @@
 -- `control_write` meets its contract.
+use native.Mathlib.Omega.{arith}
 use Rattle.chip.proofs.Laws.State.{address-in}
-use mathlib.Core.Path.{sym, ◌∙◌}
 use Rattle.chip.proofs.state.Chip.control_write.Goals as goal
 
 pub take_control_byte-next-requires : goal.take_control_byte-next-requires
-take_control_byte-next-requires c = (address-in _ ((sym c.is_well_formed.ensures ∙ c.if-not-is_well_formed.false)), c.if-vram-ne16384.false)
+take_control_byte-next-requires c = grind (arith, address-in)
