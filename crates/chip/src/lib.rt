@@ -20,7 +20,7 @@ mod two_bytes;
 
 pub use bits::{bit, set_bit};
 pub use layout::{decode, load};
-pub use lists::put;
+pub use lists::{copy, put};
 pub use map::is_dirty;
 pub use mode::{Mode, mode_of};
 pub use refusal::{Answer, Refusal};

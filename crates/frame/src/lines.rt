@@ -14,6 +14,7 @@ use redraw::{Drawing, redraw_row};
 use rows::{Brush, byte_words};
 use scanline::has_sprites;
 use sets::sets_of;
+use words::MaskTable;
 
 // Which lines are "due", as the scope calls it, a byte for each row of names. With the redraw mark set all are, and no map is read;
 // with it and the map clear none is, and no line is looked at.
@@ -40,31 +41,25 @@ fn line_sets(mode: Mode, screen: Screen) -> [u32; 192]
     [0u32; 192]
 }
 
-// What all rows are drawn with, made once.
-fn drawing_of<'a>(screen: Screen<'a>) -> Drawing<'a>
-    ensures registers { result.brush.screen.registers ≡ screen.entry.registers }
-    ensures vram { result.brush.screen.vram.now ≡ screen.entry.vram.now }
-{
-    let mode = chip::mode_of(screen.registers);
-    let brush = Brush::new(screen);
-    let words = byte_words(mode, screen.registers, &brush.masks, &brush.paints);
-    let sets = line_sets(mode, screen);
-    Drawing {
-        mode,
-        brush,
-        words,
-        sets,
-    }
-}
-
-// Redraws the lines of the rows, and counts them.
+// Redraws the lines of the rows, and counts them. The tables that all rows are drawn with are made once, and stand here: handed back by a
+// function of their own they would be copied.
 #[tactic(auto, using(crate::proofs::Laws::Step::by_rows))]
 fn redraw_rows(rows: [u8; 24], screen: Screen, frame: &mut [u8; 49152], notes: &mut [u8; 192]) -> u8
     ensures value { result ≡ count_below 192 (due_bit rows) }
     ensures frame_after { frame.new ≡ lines_end_to_end 192 (line_by rows screen.entry.registers screen.entry.vram.now frame.old) }
     ensures notes_after { notes.new ≡ tabulate 192 (note_by_rows rows screen.entry.registers screen.entry.vram.now notes.old) }
 {
-    let drawing = drawing_of(screen);
+    let mode = chip::mode_of(screen.registers);
+    let masks = MaskTable::new();
+    let brush = Brush::new(screen, &masks);
+    let words = byte_words(mode, screen.registers, &masks, &brush.paints);
+    let sets = line_sets(mode, screen);
+    let drawing = Drawing {
+        mode,
+        brush,
+        words: &words,
+        sets: &sets,
+    };
     let mut beside = [0u8; 2048];
     let mut redrawn: u8 = 0;
     for (row, due) in rows.iter().enumerate() {

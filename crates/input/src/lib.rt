@@ -1,7 +1,7 @@
 // The bytes that come in on standard input.
 #![tactic(auto)]
 
-ghost use Rattle.std.specs.Prelude.{◌≡◌, ◌≤◌, ◌⊎◌, length};
+ghost use Rattle.std.specs.Prelude.{◌≡◌, ◌≤◌, length};
 ghost use Rattle.input.specs.Came.{buffer_size, long_buffer_size, Came};
 
 use std::io::Read;
@@ -37,12 +37,18 @@ fn read_full<R: Read>(reader: &mut R, buffer: &mut [u8]) -> usize
     done
 }
 
-// Reads into a buffer of one of the two lengths, from its front on, until it is full, the input ends or a read fails. Answers how
-// many bytes came.
-// (A count beside the buffer, as `Read::read` does: a slice of it would keep it borrowed, and the contract would have to give it back.)
-pub fn read<R: Read, const N: usize>(reader: &mut R, buffer: &mut [u8; N]) -> usize
-    requires { (N ≡ buffer_size) ⊎ (N ≡ long_buffer_size) }
-    ensures { Came N result buffer.new }
+// Reads into the buffer, from its front on, until it is full, the input ends or a read fails. Answers how many bytes came.
+// (A count beside the buffer, as `Read::read` does: a slice of it would keep it borrowed, and the contract would have to give it back.
+// Two functions, each with its length in the type: with one for any length a program could read a log into the shorter buffer.)
+pub fn read<R: Read>(reader: &mut R, buffer: &mut [u8; 16407]) -> usize
+    ensures { Came buffer_size result buffer.new }
 {
     read_full(reader, buffer)
+}
+
+// The same for a snapshot with a log behind it.
+pub fn read_with_log<R: Read>(reader: &mut R, longer: &mut [u8; 56411]) -> usize
+    ensures { Came long_buffer_size result longer.new }
+{
+    read_full(reader, longer)
 }

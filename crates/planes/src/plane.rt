@@ -62,7 +62,7 @@ fn show_origins(origins: &mut [u8; 256], at: usize, mode: Mode, cell: Cell, behi
     paint_pattern(origins, at, mode, cell.pattern, one, zero);
 }
 
-// Counts through the cells.
+// Counts through the cells, and through the columns beside them.
 #[inline(always)]
 fn draw_cells(mode: Mode, screen: Screen, l: usize, line: &mut [u8; 256])
     requires { l < 192 }
@@ -72,10 +72,11 @@ fn draw_cells(mode: Mode, screen: Screen, l: usize, line: &mut [u8; 256])
     line.fill(behind);
     let cells = cells_in(mode);
     let width = cell_width(mode);
-    let margin = margin_of(mode);
+    let mut at = margin_of(mode);
     for i in 0..cells {
         let cell = cell_of(mode, screen, l, i);
-        show_cell(line, margin + i * width, mode, cell, behind);
+        show_cell(line, at, mode, cell, behind);
+        at += width;
     }
 }
 
@@ -109,11 +110,11 @@ pub fn draw_plane_with_origins(
     let behind = pixel_behind(screen.registers);
     origins.fill(behind.origin.code());
     let width = cell_width(mode);
-    let margin = margin_of(mode);
+    let mut at = margin_of(mode);
     for i in 0..cells_in(mode) {
         let cell = cell_of(mode, screen, l, i);
-        let at = margin + i * width;
         show_cell(line, at, mode, cell, colour);
         show_origins(origins, at, mode, cell, behind);
+        at += width;
     }
 }

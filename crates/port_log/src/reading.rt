@@ -16,6 +16,6 @@ pub fn read(log: &[u8], records: &mut [u8]) -> Result<(), Refusal>
         return Err(Refusal::LogForm);
     }
     tested(log)?;
-    records.copy_from_slice(record_bytes(log));
+    chip::copy(records, record_bytes(log));
     Ok(())
 }

@@ -4,7 +4,8 @@ ghost use Rattle.ppm.specs.Palette.{rgb_of};
 
 pub type Rgb = [u8; 3];
 
-const PALETTE: [Rgb; 16] = [
+// A static: a constant would be made anew for each pixel.
+static PALETTE: [Rgb; 16] = [
     [0, 0, 0],
     [0, 0, 0],
     [33, 200, 66],

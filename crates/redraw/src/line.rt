@@ -33,7 +33,7 @@ fn finish_line(brush: &Brush, l: u8, set: u32, line: &mut [u8; 256]) -> u8
     }
     let scan = scan_by_set(brush.screen, l, set);
     let ended = scan.ended;
-    let met = draw_found(line, &brush.masks, scan);
+    let met = draw_found(line, brush.masks, scan);
     note_of(ended, met)
 }
 

@@ -23,7 +23,7 @@ fn draw_planes(
     ensures part_unchanged { (result ≡ Here → ⊥) → part.new ≡ part.old }
     ensures beside_after { result ≡ Beside → beside.new ≡ plane_row drawing.now.mode drawing.now.brush.screen.registers drawing.now.brush.screen.vram.now row }
 {
-    let words = &drawing.words;
+    let words = drawing.words;
     if due == 255 {
         draw_plane_row(drawing.mode, &drawing.brush, row, words, part);
         return Planes::Here;
@@ -83,11 +83,11 @@ fn no_sprites(sets: &[u32; 192], row: usize) -> bool
 // All lines of a row that no sprite covers: their planes are the lines.
 #[tactic(auto, using(crate::proofs::Laws::Whole::plain))]
 fn redraw_plain(drawing: &Drawing, row: usize, part: &mut [u8; 2048], notes: &mut [u8; 8])
-    requires { (row < 24) × ((k : ℕ) → k < 8 → get_or drawing.now.sets (8 * row + k) 0 ≡ 0) }
+    requires { (row < 24) × ((k : ℕ) → k < 8 → get_or drawing.now.sets.now (8 * row + k) 0 ≡ 0) }
     ensures part_after { part.new ≡ row_lines drawing.now.brush.screen.registers drawing.now.brush.screen.vram.now row 255 part.old }
     ensures notes_after { notes.new ≡ row_notes drawing.now.brush.screen.registers drawing.now.brush.screen.vram.now row 255 notes.old }
 {
-    draw_plane_row(drawing.mode, &drawing.brush, row, &drawing.words, part);
+    draw_plane_row(drawing.mode, &drawing.brush, row, drawing.words, part);
     notes.fill(32);
 }
 
@@ -109,7 +109,7 @@ fn redraw_due(
     if due == 0 {
         return 0;
     }
-    if (due == 255) & no_sprites(&drawing.sets, row) {
+    if (due == 255) & no_sprites(drawing.sets, row) {
         redraw_plain(drawing, row, part, notes);
         return 8;
     }

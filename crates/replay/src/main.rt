@@ -8,7 +8,7 @@ use streams::replay;
 
 fn main(rt: HostRuntime) {
     let mut file = input::long_buffer();
-    let count = input::read(&mut rt.stdin(), &mut file);
+    let count = input::read_with_log(&mut rt.stdin(), &mut file);
     let mut output = [0u8; 16406];
     let mut errors = [0u8; 64];
     let written = replay(&file[..count], &mut output, &mut errors);

@@ -6,7 +6,7 @@ ghost use Rattle.planes.specs.Cells.{cells_in, cell_width, margin};
 ghost use Rattle.rows.specs.Lines.{LineSettled};
 ghost use Rattle.rows.specs.Rows.{plane_pixel};
 
-use crate::brush::Brush;
+use crate::brush::{Brush, coloured_word};
 use chip::Mode;
 use planes::{behind_planes, cell_of, cell_width, cells_in, margin_of};
 use words::put_word;
@@ -16,14 +16,17 @@ fn draw_line_cells(mode: Mode, brush: &Brush, l: usize, line: &mut [u8; 256])
     requires { (l < 192) × LineSettled line.old (plane_pixel mode brush.now.screen.registers brush.now.screen.vram.now l) (margin mode) }
     ensures { LineSettled line.new (plane_pixel mode brush.now.screen.registers brush.now.screen.vram.now l) (margin mode + cells_in mode * cell_width mode) }
 {
+    let screen = brush.screen;
+    let masks = brush.masks;
+    let paints = &brush.paints;
     let count = cells_in(mode);
     let width = cell_width(mode);
-    let margin = margin_of(mode);
+    let mut at = margin_of(mode);
     for i in 0..count {
-        let cell = cell_of(mode, brush.screen, l, i);
-        let word = brush.coloured_word(cell.pattern, cell.colours);
-        let at = margin + i * width;
+        let cell = cell_of(mode, screen, l, i);
+        let word = coloured_word(masks, paints, cell.pattern, cell.colours);
         put_word(line, at, word);
+        at += width;
     }
 }
 

@@ -4,7 +4,7 @@ ghost use Rattle.chip.specs.Bits.{bit};
 ghost use Rattle.rows.specs.Stripes.{Striped};
 ghost use Rattle.words.specs.Words.{byte_of};
 
-use crate::brush::Brush;
+use crate::brush::{Brush, coloured_word, pattern_word};
 use words::put_word;
 
 // Eight columns of eight lines: on line k those of the word that is given for k.
@@ -30,7 +30,8 @@ pub fn paint_patterns(
     ensures { Striped part.new part.old at (λ k j. cond (bit (7 - j) (get_or brush.now.screen.vram.now (p + k) 0)) (byte_of j one) (byte_of j zero)) }
 {
     let vram = brush.screen.vram;
-    paint_lines(part, at, |k| brush.pattern_word(vram[p + k], one, zero));
+    let masks = brush.masks;
+    paint_lines(part, at, |k| pattern_word(masks, vram[p + k], one, zero));
 }
 
 // The words of the eight bytes from p on, one a line.
@@ -53,7 +54,13 @@ pub fn paint_coloured(part: &mut [u8; 2048], at: usize, brush: &Brush, p: usize,
     ensures { Striped part.new part.old at (λ k j. cond (bit (7 - j) (get_or brush.now.screen.vram.now (p + k) 0)) (byte_of j (get_or brush.now.paints (get_or brush.now.screen.vram.now (c + k) 0 / 16) 0)) (byte_of j (get_or brush.now.paints (get_or brush.now.screen.vram.now (c + k) 0 % 16) 0))) }
 {
     let vram = brush.screen.vram;
-    paint_lines(part, at, |k| brush.coloured_word(vram[p + k], vram[c + k]));
+    let masks = brush.masks;
+    let paints = &brush.paints;
+    paint_lines(
+        part,
+        at,
+        |k| coloured_word(masks, paints, vram[p + k], vram[c + k]),
+    );
 }
 
 // One word on the upper four lines, and another on the lower four.

@@ -28,6 +28,6 @@ pub fn read(chip: Chip, vram: &mut [u8], snapshot: &[u8]) -> Answer
     if !next.is_well_formed() {
         return chip.refused(Refusal::IllFormed);
     }
-    vram.copy_from_slice(vram_bytes(snapshot));
+    chip::copy(vram, vram_bytes(snapshot));
     next.accepted(0)
 }

@@ -33,6 +33,10 @@ by-distance f g = by (dec_lt f (g + 32)) (dec_lt g (f + 32))
         let past : g + 32 ≤ f = omega arith in
         le-ltb (abs_diff f g) 32 (omega arith) ∙ sym (ap (λ (b : Bool). b && ltb g (f + 32)) (le-ltb f (g + 32) past))
 
+-- the same, by a limit that is 32
+pub by-limit : (f g limit : ℕ) → limit ≡ 32 → ltb (abs_diff f g) limit ≡ columns_overlap f g
+by-limit f g limit e = rw e (by-distance f g)
+
 apart : (f v g w : ℕ) → columns_overlap f g ≡ false → rows_meet f v g w ≡ false
 unfolding columns_overlap rows_meet
 apart f v g w e = none-holds reach _ (λ c h. by c (shown_at f v c) (shown_at g w c) refl refl)

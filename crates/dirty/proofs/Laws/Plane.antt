@@ -34,7 +34,7 @@ module _ {A : Type 0} (f : ℕ → Fetch A) (map m : List ℕ) where
       ∙ sym (any-first n (λ k. any_dirty map (fetched (f (i + k)) m)))
 
 -- the lines of a row of names
-row_of : (row k : ℕ) → k < 8 → (8 * row + k) / 8 ≡ row
+pub row_of : (row k : ℕ) → k < 8 → (8 * row + k) / 8 ≡ row
 row_of row k h = omega arith
 
 module _ (r : List ℕ) where
@@ -72,7 +72,7 @@ module _ (r vram map : List ℕ) where
   cell-dirty m l i h = ap (λ (b : Bool). is_dirty map (name_address m r l i) || b) (shape-dirty m l (get_or vram (name_address m r l i) 0) i h)
 
   -- A line fetches a dirty byte from one of the three tables.
-  plane-dirty : (m : Mode) (l : ℕ) → any_dirty map (fetched (plane_of m r l) vram) ≡ (names_dirty m r map l || (patterns_dirty m r vram map l || colours_dirty m r vram map l))
+  pub plane-dirty : (m : Mode) (l : ℕ) → any_dirty map (fetched (plane_of m r l) vram) ≡ (names_dirty m r map l || (patterns_dirty m r vram map l || colours_dirty m r vram map l))
   plane-dirty m l =
       let name : ℕ → ℕ = λ i. get_or vram (name_address m r l i) 0 in
       let n : ℕ → Bool = λ i. is_dirty map (name_address m r l i) in
@@ -90,7 +90,7 @@ module _ (r vram map : List ℕ) where
 
   module _ (bytes : Bytes vram) (l : ℕ) (low : l < 192) where
     -- a table without a dirty byte has none for a line's names
-    no-pattern : (m : Mode) → table_dirty m patterns r map ≡ false → patterns_dirty m r vram map l ≡ false
+    pub no-pattern : (m : Mode) → table_dirty m patterns r map ≡ false → patterns_dirty m r vram map l ≡ false
     unfolding pattern_address
     no-pattern m none = none-holds (cells_in m) (λ i. is_dirty map (pattern_address m r l (get_or vram (name_address m r l i) 0))) (λ i h. by m none i h (get_or vram (name_address m r l i) 0) (bytes (name_address m r l i)))
       where
@@ -101,7 +101,7 @@ module _ (r vram map : List ℕ) where
         by Multicolor none i h name hn = any-fails 2048 (λ j. is_dirty map (base Multicolor patterns r + j)) none (8 * name + l / 4 % 8) (omega arith)
         by Text none i h name hn = any-fails 2048 (λ j. is_dirty map (base Text patterns r + j)) none (8 * name + l % 8) (omega arith)
 
-    no-colour : (m : Mode) → table_dirty m colours r map ≡ false → colours_dirty m r vram map l ≡ false
+    pub no-colour : (m : Mode) → table_dirty m colours r map ≡ false → colours_dirty m r vram map l ≡ false
     unfolding colour_address
     no-colour m none = none-holds (cells_in m) (λ i. colour_dirty m r map l (get_or vram (name_address m r l i) 0)) (λ i h. by m none (get_or vram (name_address m r l i) 0) (bytes (name_address m r l i)))
       where

@@ -32,7 +32,7 @@ module _ (r : List ℕ) (ok : masked r ≡ true) where
   row_inside Multicolor row h = omega (arith, at-most-mask r ok 2 (lit< tt))
   row_inside Text row h = omega (arith, at-most-mask r ok 2 (lit< tt))
 
-  patterns-inside : (m : Mode) → base m patterns r + size m patterns ≤ 16384
+  pub patterns-inside : (m : Mode) → base m patterns r + size m patterns ≤ 16384
   patterns-inside Blank = omega (arith, at-most-mask r ok 4 (lit< tt))
   patterns-inside GraphicsI = omega (arith, at-most-mask r ok 4 (lit< tt))
   patterns-inside GraphicsII = omega (arith, at-most-mask r ok 4 (lit< tt))

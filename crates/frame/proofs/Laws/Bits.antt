@@ -28,7 +28,7 @@ all-rows byte is b bits same =
     }
 
 -- the bit of line l
-row-bit : {rows : List ℕ} {is : ℕ → Bool} → RowBits rows is → (l : ℕ) → l < 192 → due_bit rows l ≡ is l
+pub row-bit : {rows : List ℕ} {is : ℕ → Bool} → RowBits rows is → (l : ℕ) → l < 192 → due_bit rows l ≡ is l
 row-bit {rows} {is} p l h =
     let e : 8 * (l / 8) + l % 8 ≡ l = omega arith in
     p.line (l / 8) (l % 8) (omega arith) (omega arith) ∙ ap is e

@@ -18,7 +18,7 @@ use Rattle.frame.specs.Rows.{due_bit, line_by, note_by_rows}
 use Rattle.frame.proofs.Laws.Lines.{end_same, length-line, either-long, count-le}
 use Rattle.frame.proofs.Laws.Rows.{line-of-row, rest-as-lent, redrawn-row}
 
-wide_by : (rows r vram frame : List ℕ) → length frame ≡ 49152 → (l : ℕ) → l < 192 → length (line_by rows r vram frame l) ≡ 256
+pub wide_by : (rows r vram frame : List ℕ) → length frame ≡ 49152 → (l : ℕ) → l < 192 → length (line_by rows r vram frame l) ≡ 256
 wide_by rows r vram frame e l h = either-long (due_bit rows l) (colours r vram l) (line_at frame l) (length-tabulate 256 _) (length-line frame l (omega arith))
 
 module _ (rows r vram : List ℕ) (row : ℕ) where
@@ -30,7 +30,7 @@ module _ (rows r vram : List ℕ) (row : ℕ) where
       ap₂ (λ (i j : ℕ). bit i (get_or rows j 0)) low high
 
   -- lines, which stood from w bytes of the frame on as they were lent
-  step_lines : {part : List ℕ} (frame old : List ℕ) (w : ℕ) → w ≡ 2048 → length old ≡ 49152 → row < 24 → drop (2048 * row) frame ≡ drop (2048 * row) old
+  pub step_lines : {part : List ℕ} (frame old : List ℕ) (w : ℕ) → w ≡ 2048 → length old ≡ 49152 → row < 24 → drop (2048 * row) frame ≡ drop (2048 * row) old
       → part ≡ row_lines r vram row (get_or rows row 0) (take w (drop (2048 * row) frame))
       → part ≡ lines_end_to_end 8 (λ k. line_by rows r vram old (8 * row + k))
   step_lines {part} frame old w ew long h same e =
@@ -40,7 +40,7 @@ module _ (rows r vram : List ℕ) (row : ℕ) where
       ap₂ (λ (b : Bool) (t : List ℕ). cond b (colours r vram (8 * row + k)) t) (of_row k below)
       (ap (λ (t : List ℕ). line_at (take w t) k) same ∙ line-of-row old row k w ew (omega arith) below))
 
-  step-notes : {new : List ℕ} (notes old : List ℕ) (v : ℕ) → v ≡ 8 → ((k : ℕ) → 8 * row ≤ k → get_or notes k 0 ≡ get_or old k 0)
+  pub step-notes : {new : List ℕ} (notes old : List ℕ) (v : ℕ) → v ≡ 8 → ((k : ℕ) → 8 * row ≤ k → get_or notes k 0 ≡ get_or old k 0)
       → new ≡ row_notes r vram row (get_or rows row 0) (take v (drop (8 * row) notes))
       → new ≡ tabulate 8 (λ k. note_by_rows rows r vram old (8 * row + k))
   step-notes {new} notes old v ev same e =
@@ -50,7 +50,7 @@ module _ (rows r vram : List ℕ) (row : ℕ) where
       ap₂ (λ (b : Bool) (t : ℕ). cond b (note_at r vram (8 * row + k)) t) (of_row k below)
       (get_or-take v (drop (8 * row) notes) k 0 (omega arith) ∙ get_or-drop (8 * row) notes k 0 ∙ same (8 * row + k) (omega arith)))
 
-  step_count : row_count (get_or rows row 0) ≡ count_below 8 (λ k. due_bit rows (8 * row + k))
+  pub step_count : row_count (get_or rows row 0) ≡ count_below 8 (λ k. due_bit rows (8 * row + k))
   step_count = count_same 8 (λ k. bit k (get_or rows row 0)) (λ k. due_bit rows (8 * row + k)) of_row
 
 -- After l lines of a frame that is redrawn by a byte for each row.

@@ -44,7 +44,7 @@ pub cell-read : (m : Mode) (r : List ℕ) (l : ℕ) (vram : List ℕ) (i : ℕ) 
 cell-read m r l vram i h = get_d-each (cell_of m r l) vram 0 (cells_in m) i no_cell h ∙ ap (λ (j : ℕ). value (cell_of m r l j) vram) (zero-add i)
 
 -- Bytes that go by the plane's colour: f gives the byte of a colour, and that of colour 0 stands where there is no pattern.
-abbrev by_plane : (ℕ → ℕ) → Mode → List ℕ → ℕ → List ℕ → ℕ → ℕ
+abbrev pub by_plane : (ℕ → ℕ) → Mode → List ℕ → ℕ → List ℕ → ℕ → ℕ
 by_plane f m r l vram x = f (plane_colour m (value (plane_of m r l) vram) x)
 
 -- A line of them as it is painted: the cells before cell i are there.

@@ -22,7 +22,7 @@ use Rattle.redraw.specs.Row.{LineSet, plane_line}
 
 module _ (r vram : List ℕ) (l set : ℕ) (s : LineSet r vram l set) where
   -- a set that is not empty is one of a mode with sprites
-  has_some : (set ≡ 0 → ⊥) → has_sprites (mode_of r) ≡ true
+  pub has_some : (set ≡ 0 → ⊥) → has_sprites (mode_of r) ≡ true
   has_some some = by (has_sprites (mode_of r)) refl
     where
       by : (b : Bool) → has_sprites (mode_of r) ≡ b → b ≡ true
@@ -31,7 +31,7 @@ module _ (r vram : List ℕ) (l set : ℕ) (s : LineSet r vram l set) where
 
 -- a line whose set is not empty, with what was found by it
 module _ {r vram : List ℕ} {l set : ℕ} (s : LineSet r vram l set) (some : set ≡ 0 → ⊥) {scan : Scan} (f : FoundBySet r scan (value (scan_of r l) vram)) where
-  scanned : value (sprites_of (mode_of r) r l) vram ≡ value (scan_of r l) vram
+  pub scanned : value (sprites_of (mode_of r) r l) vram ≡ value (scan_of r l) vram
   scanned = rw (has_some r vram l set s some)
 
   pub fifth-small : fifth_of scan.ended ≤ 32

@@ -35,7 +35,7 @@ module _ (d : Drawing) (row : ℕ) where
   vram = d.brush.screen.vram.now
 
   -- where all eight lines are due, it does not matter what they held
-  whole_row : {due : ℕ} → due ≡ 255 → (new old : List ℕ) → row_lines r vram row due new ≡ row_lines r vram row due old
+  pub whole_row : {due : ℕ} → due ≡ 255 → (new old : List ℕ) → row_lines r vram row due new ≡ row_lines r vram row due old
   whole_row {due} e new old = end_same 8 (row_line r vram row due new) (row_line r vram row due old) (λ k h. rw (ap (bit k) e ∙ full-bit k h))
 
   -- the part as it was lent, where the planes are not drawn into it; where they are, all lines are due
@@ -45,8 +45,8 @@ module _ (d : Drawing) (row : ℕ) where
   as_lent {due} Nowhere whole same = ap (row_lines r vram row due) (same (λ e. cc))
 
   -- A row whose eight lines are due and have no sprites: its planes are its lines, and each note is 32.
-  module _ (low : row < 24) (none : (k : ℕ) → k < 8 → get_or d.sets (8 * row + k) 0 ≡ 0) where
-    set-of : (k : ℕ) → k < 8 → LineSet r vram (8 * row + k) (get_or d.sets (8 * row + k) 0)
+  module _ (low : row < 24) (none : (k : ℕ) → k < 8 → get_or d.sets.now (8 * row + k) 0 ≡ 0) where
+    set-of : (k : ℕ) → k < 8 → LineSet r vram (8 * row + k) (get_or d.sets.now (8 * row + k) 0)
     set-of k h = d.sets_are.line (8 * row + k) (omega arith)
 
     pub plain_lines : (part : List ℕ) {planes : List ℕ} → planes ≡ plane_row d.mode r vram row → planes ≡ row_lines r vram row 255 part

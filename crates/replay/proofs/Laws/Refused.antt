@@ -39,10 +39,13 @@ module _ (input : List ℕ) where
   pub snapshot-refused : {r : Refusal} → snapshot_refusal input ≡ Err r → replay_refusal input ≡ Err r
   snapshot-refused e = by-snapshot (ap is_accepted e) ∙ e
 
-  pub too_short : length input < 16406 → replay_refusal input ≡ Err SnapshotLength
-  too_short h =
+  pub snapshot-too-short : length input < 16406 → snapshot_refusal input ≡ Err SnapshotLength
+  snapshot-too-short h =
       let all : length (snapshot_part input) ≡ length input = ap length (take_all 16406 input (omega arith)) in
-      snapshot-refused (wrong-length cleared_vram (snapshot_part input) (length-replicate {A = ℕ} 16384 0) (λ e. omega arith))
+      wrong-length cleared_vram (snapshot_part input) (length-replicate {A = ℕ} 16384 0) (λ e. omega arith)
+
+  pub too_short : length input < 16406 → replay_refusal input ≡ Err SnapshotLength
+  too_short h = snapshot-refused (snapshot-too-short h)
 
   -- .. and then that of the run
   pub by-run : snapshot_refusal input ≡ Ok tt → replay_refusal input ≡ (refusal_of_run input)

@@ -11,15 +11,15 @@ use Rattle.text.specs.Numbers.{digit, three_digits, decimal, long_decimal}
 use Rattle.text.specs.Lines.{run_text, bounds_text}
 
 module _ (n : ℕ) where
-  one-digit : n < 10 → decimal n ≡ digit n ∷ []
+  pub one-digit : n < 10 → decimal n ≡ digit n ∷ []
   unfolding decimal
   one-digit h = rw (lt-ltb n 10 h)
 
-  two_digits : 10 ≤ n → n < 100 → decimal n ≡ digit (n / 10) ∷ digit (n % 10) ∷ []
+  pub two_digits : 10 ≤ n → n < 100 → decimal n ≡ digit (n / 10) ∷ digit (n % 10) ∷ []
   unfolding decimal
   two_digits h k = rw (le-ltb n 10 h, lt-ltb n 100 k)
 
-  three-digits : 100 ≤ n → decimal n ≡ three_digits n
+  pub three-digits : 100 ≤ n → decimal n ≡ three_digits n
   unfolding decimal
   three-digits h = rw (le-ltb n 10 (omega arith), le-ltb n 100 h)
 
@@ -32,7 +32,7 @@ module _ (n : ℕ) where
       by false false e f = let s = ap length (three-digits (ltb-false n 100 f)) in (omega arith, λ small. absurd (omega (arith, ltb-false n 10 e)))
 
   -- a number from 1,000 on has its thousands before its last three digits
-  no-thousands : n < 1000 → long_decimal n ≡ decimal n
+  pub no-thousands : n < 1000 → long_decimal n ≡ decimal n
   unfolding long_decimal
   no-thousands h = rw (lt-ltb n 1000 h)
 

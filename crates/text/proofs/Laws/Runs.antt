@@ -1,14 +1,16 @@
 -- Runs of a line by its chunks, and when two lines are the same.
-use Prim.Native.Nat.{ℕ, suc, ◌+◌, ◌-◌, ◌*◌, ◌≤◌, ◌<◌}
+use Prim.Native.Nat.{ℕ, zero, suc, ◌+◌, ◌-◌, ◌*◌, ◌≤◌, ◌<◌}
 use native.Mathlib.Nat.{add-zero}
 use native.Mathlib.Omega.{arith}
 use native.Mathlib.Numerals.{add-one}
 use mathlib.Core.Path.{◌≡◌, refl, ap, ap₂, sym, ◌∙◌}
 use mathlib.Core.Bool.{Bool, true, false, cond, ◌&&◌}
+use mathlib.Core.Logic.{◌↔◌}
 use mathlib.Core.List.{List, [], ◌∷◌, ◌++◌, append-nil}
 use lib.Dec.{eqb}
 use lib.ListN.{length, length-append, get_or}
 use lib.Pointwise.{pointwise}
+use Rattle.chip.proofs.Laws.Ranges.{and_left, and_right}
 use Rattle.text.specs.Lines.{run_text, runs_text}
 use Rattle.text.proofs.Laws.Numbers.{length_run}
 use Rattle.std.specs.List.{IsChunkByPrefix}
@@ -54,6 +56,34 @@ pointwise_is_same [] [] = refl
 pointwise_is_same [] (y ∷ b) = refl
 pointwise_is_same (x ∷ a) [] = refl
 pointwise_is_same (x ∷ a) (y ∷ b) = ap (λ (t : Bool). eqb x y && t) (pointwise_is_same a b)
+
+-- lines of one length are the same where they are at each place
+same-at : (a b : List ℕ) → length a ≡ length b → same a b ≡ true → (i : ℕ) → i < length a → eqb (get_or a i 0) (get_or b i 0) ≡ true
+unfolding same
+same-at [] b e all i h = absurd (omega arith)
+same-at (x ∷ a) [] e all i h = absurd (omega arith)
+same-at (x ∷ a) (y ∷ b) e all zero h = and_left (eqb x y) (same a b) all
+same-at (x ∷ a) (y ∷ b) e all (suc i) h = same-at a b (omega arith) (and_right (eqb x y) (same a b) all) i (omega arith)
+
+same-all : (a b : List ℕ) → length a ≡ length b → ((i : ℕ) → i < length a → eqb (get_or a i 0) (get_or b i 0) ≡ true) → same a b ≡ true
+unfolding same
+same-all [] [] e each = refl
+same-all [] (y ∷ b) e each = absurd (omega arith)
+same-all (x ∷ a) [] e each = absurd (omega arith)
+same-all (x ∷ a) (y ∷ b) e each = rw (each 0 (omega arith)) (same-all a b (omega arith) (λ i h. each (suc i) (omega arith)))
+
+both-ways : (s t : Bool) → (s ≡ true → t ≡ true) → (t ≡ true → s ≡ true) → s ≡ t
+both-ways true t f g = sym (f refl)
+both-ways false true f g = g refl
+both-ways false false f g = refl
+
+pub each_is_same : {t : Bool} (a b : List ℕ) → length a ≡ length b → ((t ≡ true) ↔ ((i : ℕ) → i < length a → eqb (get_or a i 0) (get_or b i 0) ≡ true)) → t ≡ same a b
+each_is_same {t} a b e each = both-ways t (same a b) (λ s. same-all a b e (each.0 s)) (λ s. each.1 (same-at a b e s))
+
+pub same_each : {t : Bool} (a b : List ℕ) → length a ≡ length b → t ≡ pointwise eqb a b → ((t ≡ true) ↔ ((i : ℕ) → i < length a → eqb (get_or a i 0) (get_or b i 0) ≡ true))
+same_each {t} a b e is =
+    let whole : t ≡ same a b = is ∙ pointwise_is_same a b in
+    (λ s. same-at a b e (sym whole ∙ s), λ each. whole ∙ same-all a b e each)
 
 -- the text of a line's runs takes at most six characters for each column
 length-after : (k y : ℕ) (l : List ℕ) → 1 ≤ k → length (runs_text (runs_after eqb k y l)) ≤ 6 * (k + length l)

@@ -1,14 +1,18 @@
 -- `cells_joined` meets its contract.
-use Prim.Native.Nat.{ℕ}
+use Prim.Native.Nat.{ℕ, ◌+◌}
 use mathlib.Core.Path.{◌≡◌, refl, sym, ◌∙◌}
 use mathlib.Core.Bool.{false}
+use mathlib.Core.List.{List}
 use mathlib.Core.Logic.{◌⊎◌, ⊎_elim}
+use lib.ListN.{length, get_or}
+use lib.Seq.{take_all}
 use borrow.Author.Rules.{rules}
 use Rattle.chip.specs.Bits.{bit}
 use Rattle.chip.specs.Ranges.{any_below}
 use Rattle.chip.specs.declared.mode.Mode.TheVariants.{Blank, Multicolor, Text}
 use Rattle.chip.proofs.Laws.Bits.{bit-zero, full-bit}
 use Rattle.chip.proofs.Laws.Ranges.{none-holds}
+use Rattle.dirty.specs.Plane.{ByteBits}
 use Rattle.dirty.proofs.Laws.Cells.{Places, patterns_joined, colours_joined, colours_shared}
 use Rattle.dirty.proofs.plane.cells_joined.Goals as goal
 use Rattle.dirty.proofs.plane.cells_joined.Goals.{After-third_of}
@@ -27,8 +31,12 @@ pub returns-else-shared_dirty : goal.returns-else-shared_dirty
 returns-else-shared_dirty c =
     λ k h. bit-zero k ∙ sym c.if-shared_dirty.false ∙ colours_shared (places (goal.at.returns-else-shared_dirty c).After-third_of) _ c.in-Colours-GraphicsI.is-0 c.in-Colours-GraphicsI.is-1 c.shared_dirty.ensures k h
 
+-- of the same names
+over : (l names map : List ℕ) (at byte : ℕ) → ByteBits byte (λ k. any_below (length l) (λ i. bit k (get_or map (at + get_or l i 0) 0))) → l ≡ names → ByteBits byte (λ k. any_below (length names) (λ i. bit k (get_or map (at + get_or names i 0) 0)))
+over l names map at byte bits e = rw e at bits
+
 pub returns-in-Colours-GraphicsII : goal.returns-in-Colours-GraphicsII
-returns-in-Colours-GraphicsII c = colours_joined (places (goal.at.returns-in-Colours-GraphicsII c).After-third_of) _ c.in-Colours-GraphicsII.is-0 c.in-Colours-GraphicsII.is-1 _ c.joined-in-Colours-GraphicsII.ensures
+returns-in-Colours-GraphicsII c = colours_joined (places (goal.at.returns-in-Colours-GraphicsII c).After-third_of) _ c.in-Colours-GraphicsII.is-0 c.in-Colours-GraphicsII.is-1 _ (over _ _ _ _ _ c.joined-in-Colours-GraphicsII.ensures (search (rules, take_all)))
 
 -- in a mode without a colour table
 no_table : (k n : ℕ) → bit k 0 ≡ any_below n (λ i. false)

@@ -5,8 +5,8 @@ use Rattle.frame.proofs.lines.redraw_rows.Goals as goal
 
 pub loop-row-preserved : goal.loop-row-preserved
 loop-row-preserved c =
-    let lines = rw (c.drawing_of-drawing.ensures.registers, c.drawing_of-drawing.ensures.vram) at c.redraw_row-count.ensures.part_after in
-    let notes = rw (c.drawing_of-drawing.ensures.registers, c.drawing_of-drawing.ensures.vram) at c.redraw_row-count.ensures.notes_after in
+    let lines = rw (c.new-brush.ensures.registers, c.new-brush.ensures.vram) at c.redraw_row-count.ensures.part_after in
+    let notes = rw (c.new-brush.ensures.registers, c.new-brush.ensures.vram) at c.redraw_row-count.ensures.notes_after in
     rows-more c.told-frame (omega arith) c.loop-row.invariant (omega arith) (omega arith) lines notes c.redraw_row-count.ensures.value
 
 pub returns-clause-notes_after : goal.returns-clause-notes_after

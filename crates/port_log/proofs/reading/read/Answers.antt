@@ -14,7 +14,7 @@ pub returns-then-log-lt4-clause-records_after : goal.returns-then-log-lt4-clause
 returns-then-log-lt4-clause-records_after c =
     rw (too_short c.if-log-lt4.true, or-true) (refl)
 
-pub copy_from_slice-requires : goal.copy_from_slice-requires
-copy_from_slice-requires c =
+pub copy-requires : goal.copy-requires
+copy-requires c =
     let log_at : List ℕ = c.args.log.now in
     rw c.record_bytes.ensures (c.if-records-log.false ∙ sym (length-record-bytes (log_at)))

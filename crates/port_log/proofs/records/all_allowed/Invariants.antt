@@ -1,9 +1,10 @@
--- `all_allowed`: those before i are allowed or not, and those from i on decide the rest.
+-- `all_allowed`: the parts so far are allowed, and those that are left decide.
 use mathlib.Core.Path.{◌≡◌}
-use mathlib.Core.Bool.{◌&&◌}
+use Rattle.std.specs.Slice.Iter.{chunks_rest, chunks_size}
 use Rattle.port_log.specs.Records.{all_allowed, records_of}
-use Rattle.port_log.proofs.Laws.Records.{allowed_from}
 use Rattle.port_log.proofs.records.all_allowed.Given as goal
 
-abbrev pub invariant-loop-i : goal.invariant-loop-i
-invariant-loop-i l = all_allowed (records_of l.bytes) ≡ (l.allowed && allowed_from l.i l.bytes)
+abbrev pub invariant-loop-part : goal.invariant-loop-part
+invariant-loop-part l =
+    (chunks_size l.part-iterator ≡ 64)
+    × (all_allowed (records_of l.bytes) ≡ all_allowed (records_of (chunks_rest l.part-iterator)))

@@ -5,6 +5,7 @@ use mathlib.Core.Path.{◌≡◌, sym, ap, ◌∙◌}
 use mathlib.Core.List.{List}
 use lib.ListN.{length, take, drop, length-drop}
 use lib.Seq.{take_all}
+use borrow.Author.Rules.{rules}
 use Rattle.std.specs.Prelude.{Ok, Err}
 use Rattle.chip.specs.State.{power_up_state}
 use Rattle.chip.specs.Map.{map_size}
@@ -75,7 +76,8 @@ pub returns-in-Err-result : goal.returns-in-Err-result
 returns-in-Err-result c =
     let input : List ℕ = c.args.input.now in
     let run = ran-from input c.power_up_state.ensures c.read-answer.ensures.value c.read-answer.ensures.vram_after c.run-ran.ensures.value in
-    let is = run-refused input c.power_up_state.ensures c.read-answer.ensures.value c.in_default.is run c.in-Err-result.is in
+    let refused : c.run-ran.result.result ≡ Err c.in-Err-result.refusal = search rules in
+    let is = run-refused input c.power_up_state.ensures c.read-answer.ensures.value c.in_default.is run refused in
     refused-writes input c.in-Err-result.refusal is c.refuse-in-Err-result.ensures.value c.args.output.now c.args.errors.now c.refuse-in-Err-result.ensures.errors_after
 
 pub returns-in-Ok : goal.returns-in-Ok
@@ -83,5 +85,6 @@ returns-in-Ok c =
     let input : List ℕ = c.args.input.now in
     let run = ran-from input c.power_up_state.ensures c.read-answer.ensures.value c.read-answer.ensures.vram_after c.run-ran.ensures.value in
     let left = vram-from input c.power_up_state.ensures c.read-answer.ensures.value c.read-answer.ensures.vram_after c.run-ran.ensures.vram_after in
-    let is = run-accepted input c.power_up_state.ensures c.read-answer.ensures.value c.in_default.is run c.in-Ok.is in
-    accepted-writes input (λ i. omega (arith, (c.type_inv.input i).fits)) is c.args.output.now c.args.errors.now (omega (arith, c.told-output)) run c.in-Ok.is left c.put_report.ensures.value c.write.ensures.out_after c.put_report.ensures.out_after
+    let accepted : c.run-ran.result.result ≡ Ok c.in-Ok.reached = search rules in
+    let is = run-accepted input c.power_up_state.ensures c.read-answer.ensures.value c.in_default.is run accepted in
+    accepted-writes input (λ i. omega (arith, (c.type_inv.input i).fits)) is c.args.output.now c.args.errors.now (omega (arith, c.told-output)) run accepted left c.put_report.ensures.value c.write.ensures.out_after c.put_report.ensures.out_after

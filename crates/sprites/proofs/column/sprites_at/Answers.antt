@@ -1,5 +1,5 @@
 -- `sprites_at` meets its contract.
-use Rattle.std.proofs.Common.{Iter, ◌≡◌, [], take, sym, ap, ◌∙◌}
+use Rattle.std.proofs.Common.{Iter, ◌≡◌, ℕ, [], take, sym, ap, ◌∙◌, arith}
 use Rattle.std.proofs.lemmas.List.{nil_from_length}
 use Rattle.planes.specs.Origin.{frontmost}
 use Rattle.sprites.specs.Pixels.{visible, numbered_colours}
@@ -20,5 +20,5 @@ loop-s-preserved c =
 pub returns : goal.returns
 returns c =
     let last : c.loop-s.s-iterator.iter.rest.now ≡ [] = nil_from_length _ (c.in-None.ensures.steps.0) in
-    let whole : c.into_iter-s-iterator.result.iter.rest.now ≡ take c.args.scan.drawn c.args.scan.sprites = ap (λ (t : Rev (Iter Sprite)). t.iter.rest.now) c.into_iter-s-iterator.ensures.into_iter_gives ∙ ap (λ (t : Iter Sprite). t.rest.now) c.rev-s-items.ensures.source ∙ c.iter.ensures.rest in
+    let whole : c.into_iter-s-iterator.result.iter.rest.now ≡ take c.args.scan.drawn c.args.scan.sprites = ap (λ (t : Rev (Iter Sprite)). t.iter.rest.now) c.into_iter-s-iterator.ensures.into_iter_gives ∙ ap (λ (t : Iter Sprite). t.rest.now) c.rev-s-items.ensures.source ∙ c.iter.ensures.rest ∙ ap (λ (n : ℕ). take n c.args.scan.sprites) (omega arith) in
     rw (whole, last) at c.loop-s.invariant

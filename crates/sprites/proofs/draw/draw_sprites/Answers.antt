@@ -1,5 +1,5 @@
 -- `draw_sprites` meets its contract.
-use Rattle.std.proofs.Common.{◌≡◌, ℕ, ◌+◌, ◌-◌, ◌&&◌, take, drop, get_or, ap, ◌∙◌, arith}
+use Rattle.std.proofs.Common.{◌≡◌, ℕ, ◌-◌, ◌&&◌, take, drop, get_or, ap, ◌∙◌, arith}
 use Rattle.std.proofs.Math.Bool.{or_comm}
 use Rattle.chip.specs.Ranges.{any_below}
 use Rattle.sprites.specs.Held.{no_sprite}
@@ -17,8 +17,7 @@ loop-k-preserved c =
     let sprites = c.args.scan.sprites in
     let n = c.args.scan.drawn in
     let s = get_or sprites (h.k - 1) no_sprite in
-    let back : h.k - 1 + 1 ≡ h.k = omega arith in
-    let met = c.meets_one-met.ensures ∙ ap (λ (j : ℕ). any_below reach (λ x. hits r s x && any_hits r (drop j (take n sprites)) x)) back in
+    let met : c.meets_one-met.result ≡ any_below reach (λ x. hits r s x && any_hits r (drop h.k (take n sprites)) x) = c.meets_one-met.ensures ∙ ap (λ (j : ℕ). any_below reach (λ x. hits r s x && any_hits r (drop j (take n sprites)) x)) (grind arith) in
     rw (one_lower sprites n h.k no_sprite (omega arith) (omega arith) (omega arith), or_comm h.met c.meets_one-met.result)
     (over-one h.invariant s c.paint_sprite.ensures met)
 

@@ -1,5 +1,5 @@
 -- `scan_of` meets its contract.
-use Rattle.std.proofs.Common.{◌<◌, sym, ◌∙◌, arith}
+use Rattle.std.proofs.Common.{◌≡◌, ◌<◌, false, sym, ◌∙◌, arith, rules}
 use Rattle.sprites.proofs.Laws.Scan.{going_on, going-draw, not-covering, drawn}
 use Rattle.sprites.proofs.scan.scan_of.Goals as goal
 use Rattle.sprites.proofs.scan.scan_of.Goals.{then-covering+else-drawn-eq4, else-covering}
@@ -10,7 +10,8 @@ loop-n-preserved c =
     let h = c.loop-n in
     let n : h.n < 32 = omega (arith, h.invariant.up, c.if-n-eq32.false) in
     let at = c.attribute_address.ensures in
-    let more = rw at at (sym c.is_terminator.ensures ∙ c.if-is_terminator.false) in
+    let no : c.is_terminator.result ≡ false = search rules in
+    let more = rw at at (sym c.is_terminator.ensures ∙ no) in
     let covering = rw at at c.covers-covering.ensures in
     elim c.if-covering.branch [
       | then-covering+else-drawn-eq4 w ↦
