@@ -4,6 +4,7 @@ ghost use Rattle.chip.specs.Lists.{put_at};
 ghost use Rattle.ppm.specs.Picture.{painted};
 
 use crate::palette::rgb_of;
+use chip::copy;
 
 // The pixels of colours, at the front of a slice.
 #[tactic(auto, using(crate::proofs::Laws::Paint::painting))]
@@ -12,6 +13,6 @@ pub fn paint(colours: &[u8], out: &mut [u8])
     ensures { out.new ≡ put_at 0 (painted colours.now) out.old }
 {
     for (x, colour) in colours.iter().enumerate() {
-        out[3 * x..3 * x + 3].copy_from_slice(&rgb_of(*colour));
+        copy(&mut out[3 * x..3 * x + 3], &rgb_of(*colour));
     }
 }
