@@ -7,8 +7,8 @@ use crate::paint::paints;
 use chip::Screen;
 use words::{MaskTable, blend};
 
-// A pattern byte as a word, in two colours. (This and the next take the tables and no brush: in a loop that stores, the compiler would look
-// up for each word where the brush has its masks.)
+// A pattern byte as a word, in two colours. (No methods: through a brush, in a loop that stores, the compiler would look up for each word
+// where the masks are.)
 pub fn pattern_word(masks: &MaskTable, pattern: u8, one: u64, zero: u64) -> u64
     ensures { PatternWord pattern one zero result }
 {
@@ -43,18 +43,5 @@ impl<'a> Brush<'a> {
             masks,
             paints: paints(screen.registers),
         }
-    }
-
-    // Both with the brush's own tables.
-    pub fn pattern_word(&self, pattern: u8, one: u64, zero: u64) -> u64
-        ensures { PatternWord pattern one zero result }
-    {
-        pattern_word(self.masks, pattern, one, zero)
-    }
-
-    pub fn coloured_word(&self, pattern: u8, colours: u8) -> u64
-        ensures { PatternWord pattern (get_or self.now.paints (colours / 16) 0) (get_or self.now.paints (colours % 16) 0) result }
-    {
-        coloured_word(self.masks, &self.paints, pattern, colours)
     }
 }

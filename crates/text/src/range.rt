@@ -9,7 +9,6 @@ use crate::runs::put_runs;
 use chip::put;
 
 // Whether two lines have the same colours.
-#[tactic(auto, using(crate::proofs::Laws::Runs::pointwise_is_same))]
 pub fn same(a: &[u8], b: &[u8]) -> bool
     requires { length a.now ≡ length b.now }
     ensures { result ≡ join.same a.now b.now }
